@@ -1,0 +1,4 @@
+pub mod Tab
+pub mod TabLaws
+pub mod InOrder
+pub mod ByTurn

@@ -1,0 +1,1 @@
+// Nothing to run: the laws of loops that fill buffers stand in specs/.
