@@ -1,0 +1,11 @@
+pub mod Bits
+pub mod BitsLaws
+pub mod Syntax
+pub mod SyntaxLaws
+pub mod Unique
+pub mod Table
+pub mod TableFill
+pub mod Theorems
+pub mod Answer
+pub mod Cursor
+pub mod CursorLaws
