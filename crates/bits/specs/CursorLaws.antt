@@ -32,9 +32,9 @@ module _ (b : List ℕ) (l : ℕ) where
   unfolding runFrom
   ended-refused c m z = rw (ne-eqb (c .err) 0 z)
 
-  pub refuses : {A : Type 0} (c : Cursor) (x : Refusal) → c .err ≡ 0 → runFrom {A = A} b l c (refuse x) ≡ refused x
+  pub ended-refuse : {A : Type 0} (c : Cursor) (x : Refusal) → c .err ≡ 0 → runFrom {A = A} b l c (refuse x) ≡ refused x
   unfolding runFrom run
-  refuses c x z = rw (eq-eqb (c .err) 0 z)
+  ended-refuse c x z = rw (eq-eqb (c .err) 0 z)
 
   -- after a refusal all programs are alike
   pub refused-alike : {A : Type 0} (c : Cursor) (m m′ : Syntax A) → (c .err ≡ 0 → ⊥) → runFrom b l c m ≡ runFrom b l c m′
@@ -104,6 +104,12 @@ module _ (b : List ℕ) (l : ℕ) where
   unfolding runFrom run andThen
   from-done c a k true e = rw e
   from-done c a k false e = rw e
+
+  -- a part that goes on at the cursor c′ as another, and then what follows
+  pub bind-as : {A B : Type 0} (c c′ : Cursor) (m m′ : Syntax A) (k : A → Syntax B)
+      → runFrom b l c m ≡ runFrom b l c′ m′ → runFrom b l c (bind m k) ≡ runFrom b l c′ (bind m′ k)
+  bind-as c c′ m m′ k e =
+      from-bind c m k (eqb (c .err) 0) refl ∙ ap (λ o. andThen o (λ a u. run (k a) b l u)) e ∙ sym (from-bind c′ m′ k (eqb (c′ .err) 0) refl)
 
   -- a part that ends at the cursor c′ with the value a, and then another
   pub goes-on-from : {A B : Type 0} (c c′ : Cursor) (m : Syntax A) (a : A) (k : A → Syntax B)

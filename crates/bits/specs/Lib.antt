@@ -9,3 +9,11 @@ pub mod Theorems
 pub mod Answer
 pub mod Cursor
 pub mod CursorLaws
+pub mod Ran
+pub mod Yields
+pub mod Width
+pub mod Entries
+pub mod TableFits
+pub mod Total
+pub mod TotalLaws
+pub mod Zeros

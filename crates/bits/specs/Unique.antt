@@ -108,7 +108,7 @@ finding-along π N (refuse x) L M h o = tt
 finding-along π N (field n k) L M h o =
     (λ d. o .0 (π d), λ v b. finding-along π N (k v) (λ r. L r × (o .0 r ≡ v)) (λ d. M d × (o .0 (π d) ≡ v)) (λ d n l. (h d n (l .0), l .1)) (o .1 v b))
 
-finds-along : {A D : Type 0} (π : D → A) (N : D → Type 0) {m : Syntax A} (M : D → Type 0)
+pub finds-along : {A D : Type 0} (π : D → A) (N : D → Type 0) {m : Syntax A} (M : D → Type 0)
     → ((d : D) → N d → M d) → Recovers m → Finds m M (λ a M′. (d : D) → N d → π d ≡ a → M′ d)
 finds-along π N {m} M h o = record { finding = finding-along π N m None M (λ d n l. h d n) (o .finding) }
 

@@ -1,0 +1,14 @@
+pub mod Config
+pub mod Groups
+pub mod Crosstalk
+pub mod Predictors
+pub mod Roles
+pub mod Records
+pub mod TableLaws
+pub mod CaseLaws
+pub mod ConfigLaws
+pub mod GroupsLaws
+pub mod CrosstalkLaws
+pub mod PredictorsLaws
+pub mod RecordsLaws
+pub mod RolesLaws

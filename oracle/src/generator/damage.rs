@@ -1,0 +1,134 @@
+//! Ways to spoil a frame: cuts, flips, noise, and loans that document 01 refuses.
+
+use super::layout::STEPS;
+use super::plan::{Plan, Source};
+use super::random::Random;
+use super::writer::{Field, put};
+use crate::input::FrameInput;
+use crate::scope::State;
+
+/// One of the two strings.
+#[derive(Debug, Clone, Copy, PartialEq, Eq, Hash)]
+pub enum Part {
+    Head,
+    Payload,
+}
+
+fn string(input: &mut FrameInput, part: Part) -> (&mut Vec<u8>, &mut u64) {
+    match part {
+        Part::Head => (&mut input.head, &mut input.head_bits),
+        Part::Payload => (&mut input.payload, &mut input.payload_bits),
+    }
+}
+
+/// Lowers the bit count; with `shorten` the bytes that hold no bit any more go too.
+pub fn cut(input: &mut FrameInput, part: Part, bits: u64, shorten: bool) {
+    let (bytes, count) = string(input, part);
+    *count = bits;
+    if shorten {
+        bytes.truncate(bits.div_ceil(8) as usize);
+    }
+}
+
+/// Turns one bit over.
+pub fn flip(input: &mut FrameInput, part: Part, at: u64) {
+    string(input, part).0[(at / 8) as usize] ^= 0x80 >> (at % 8);
+}
+
+/// Writes another number over a field.
+pub fn overwrite(input: &mut FrameInput, part: Part, field: Field, value: u32) {
+    put(string(input, part).0, field.at, field.width, value);
+}
+
+/// Random bits after the used ones, some of them past the new bit count; none of them matters.
+pub fn pad(random: &mut Random, input: &mut FrameInput, part: Part) {
+    let (bytes, bits) = string(input, part);
+    let used = *bits;
+    bytes.extend((0..random.below(9)).map(|_| random.below(256) as u8));
+    for at in used..8 * bytes.len() as u64 {
+        put(bytes, at, 1, random.below(2));
+    }
+    let spare = 8 * bytes.len() as u64 - used;
+    *bits += u64::from(random.below(spare as u32 + 1));
+}
+
+/// Random bytes in the place of a string, of the same bit count.
+pub fn noise(random: &mut Random, input: &mut FrameInput, part: Part) {
+    for byte in string(input, part).0 {
+        *byte = random.below(256) as u8;
+    }
+}
+
+/// A loan of refusal 6.
+pub fn wrong_loan(random: &mut Random, input: &mut FrameInput, state: &mut State) {
+    let part = random.pick(&[Part::Head, Part::Payload]);
+    match random.below(7) {
+        0 => input.sample_rate = random.pick(&[0, 22_050, 24_000, 44_101, 96_000]),
+        1 => input.lfe_allocation = random.pick(&[16, 17, u32::MAX]),
+        2 => state.count = random.pick(&[6, 7, u32::MAX]),
+        3 => {
+            let channel = random.below(input.base_channels as u32) as usize;
+            let subband = random.below(32) as usize;
+            input.base_nb_steps[channel][subband] = unknown_steps(random);
+        }
+        4 => {
+            let (bytes, bits) = string(input, part);
+            *bits = 8 * bytes.len() as u64 + 1 + u64::from(random.below(9));
+        }
+        5 => string(input, part).0.resize(8193, 0),
+        _ => drop_slot(random, input),
+    }
+}
+
+/// One slot fewer in a base channel.
+fn drop_slot(random: &mut Random, input: &mut FrameInput) {
+    let channel = random.below(input.base_channels as u32) as usize;
+    let side = match random.flag() {
+        true => &mut input.base_raw,
+        false => &mut input.base_scaled,
+    };
+    side[channel].pop();
+}
+
+/// A value of refusal 7 in the base or the history.
+pub fn wild_value(random: &mut Random, input: &mut FrameInput, state: &mut State) {
+    let above = f64::from_bits(4.0f64.to_bits() + 1);
+    let wild = [
+        above,
+        -above,
+        f64::NAN,
+        f64::INFINITY,
+        -f64::INFINITY,
+        1e300,
+    ];
+    let value = random.pick(&wild);
+    let channel = random.below(input.base_channels as u32) as usize;
+    let (slot, subband) = (random.below(36) as usize, random.below(32) as usize);
+    match random.below(3) {
+        0 => input.base_raw[channel][slot][subband] = value,
+        1 => input.base_scaled[channel][slot][subband] = value,
+        _ => state.history[random.below(576) as usize] = value,
+    }
+}
+
+/// An allocation of refusal 8, for the frame of a plan: a step count that no class has, one at a place
+/// that is not transmitted, or an LFE allocation without LFE.
+pub fn wrong_allocation(random: &mut Random, plan: &Plan, input: &mut FrameInput) {
+    if !plan.head.lfe && random.chance(1, 4) {
+        input.lfe_allocation = 1 + random.below(15);
+        return;
+    }
+    let (channel, subband) = (random.below(3) as usize, random.below(32) as usize);
+    let transmitted = plan.source(channel, subband) == Source::Transmitted;
+    input.nb_steps[channel][subband] = match transmitted || random.chance(1, 4) {
+        true => unknown_steps(random),
+        false => random.pick(&STEPS),
+    };
+}
+
+/// A step count that no class has.
+pub fn unknown_steps(random: &mut Random) -> u32 {
+    let near = random.pick(&STEPS) + random.pick(&[1, 0x1_0000, 0x8000_0000]);
+    let steps = random.pick(&[1, 2, near, u32::MAX]);
+    if STEPS.contains(&steps) { 1 } else { steps }
+}

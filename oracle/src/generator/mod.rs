@@ -1,0 +1,17 @@
+//! Random frames for differential runs, made from a seed and apart from the published code.
+//!
+//! [`Plan::random`] gives an accepted frame, [`Plan::plain`] one of zeros to be changed by hand;
+//! [`Plan::input`] writes either down. [`damage`] cuts, spoils and replaces what a frame lends.
+
+pub mod base;
+pub mod damage;
+pub mod head;
+pub mod layout;
+pub mod payload;
+pub mod plan;
+pub mod random;
+pub mod writer;
+
+pub use plan::{Plan, Source};
+pub use random::Random;
+pub use writer::{Field, Kind, Written};

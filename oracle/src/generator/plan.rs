@@ -1,0 +1,219 @@
+//! A frame as a plan: all fields that go on the wire and all that is lent beside them.
+
+use super::base::Base;
+use super::head::Head;
+use super::layout::{Layout, code_width, group_of, grouped, subband_limit};
+use super::payload::Payload;
+use super::random::Random;
+use super::writer::{Kind, Written};
+use crate::input::FrameInput;
+
+/// A frame before it is written. Any plan whose fields fit their widths can be written; a random one
+/// is accepted.
+#[derive(Debug, Clone, PartialEq)]
+pub struct Plan {
+    pub base_channels: usize,
+    pub sample_rate: u32,
+    pub head: Head,
+    pub payload: Payload,
+    pub base: Base,
+}
+
+/// Where the step count and the samples of a place come from.
+#[derive(Debug, Clone, Copy, PartialEq, Eq)]
+pub enum Source {
+    /// No channel, past the subband limit, barred, or under a code that is not listed: the step
+    /// count is 0.
+    Nowhere,
+    Transmitted,
+    Base(usize),
+    Channel(usize),
+}
+
+impl Plan {
+    /// Base channels, centre and surround code, rate and procedure: 2 x 4 x 4 x 3 x 4.
+    pub const SHAPES: u64 = 384;
+
+    /// An accepted frame. Consecutive seeds go through the shapes in turn; the rest is random.
+    pub fn random(seed: u64) -> Plan {
+        let mut rest = seed % Plan::SHAPES;
+        let mut digit = |base: u64| {
+            let digit = rest % base;
+            rest /= base;
+            digit as u32
+        };
+        let base_channels = 2 - digit(2) as usize;
+        let mut head = Head::plain(digit(4), digit(4));
+        head.procedure = digit(4);
+        let sample_rate = [44_100, 48_000, 32_000][digit(3) as usize];
+        let random = &mut Random::new(seed);
+        let mut plan = Plan {
+            base_channels,
+            sample_rate,
+            head: Head::random(random, base_channels, head),
+            payload: Payload::empty(),
+            base: Base::random(random, base_channels),
+        };
+        plan.payload = Payload::random(random, plan.head.lfe, |channel, subband| {
+            plan.source(channel, subband) == Source::Transmitted
+        });
+        plan
+    }
+
+    /// A frame of zeros with this layout, at 44,100 Hz.
+    pub fn plain(base_channels: usize, centre: u32, surround: u32) -> Plan {
+        Plan {
+            base_channels,
+            sample_rate: 44_100,
+            head: Head::plain(centre, surround),
+            payload: Payload::empty(),
+            base: Base::silent(base_channels),
+        }
+    }
+
+    pub fn layout(&self) -> Layout {
+        Layout::of(self.base_channels, self.head.centre, self.head.surround)
+    }
+
+    /// Where a place gets its step count and samples from; the phantom bar comes before crosstalk.
+    pub fn source(&self, channel: usize, subband: usize) -> Source {
+        let layout = self.layout();
+        let limit = subband_limit(self.sample_rate);
+        let barred = layout.phantom && channel == 0 && subband >= 12;
+        if channel >= layout.channels() || subband >= limit || barred {
+            return Source::Nowhere;
+        }
+        let group = group_of(subband);
+        if channel >= layout.main {
+            let copies = channel == layout.main + 1 && self.head.second_of(group);
+            return if copies {
+                Source::Channel(layout.main)
+            } else {
+                Source::Transmitted
+            };
+        }
+        let Some(sources) = layout.sources().get(self.head.code_of(group) as usize) else {
+            return Source::Nowhere;
+        };
+        let (tc, left_right) = (self.head.tc_of(group), self.head.left_right);
+        match sources.as_bytes()[channel] {
+            b'T' => Source::Transmitted,
+            b'B' => Source::Base(layout.base_channel(tc, channel, left_right)),
+            digit => Source::Channel(usize::from(digit - b'0')),
+        }
+    }
+
+    /// The step count of a place, a crossed one among them.
+    pub fn steps(&self, channel: usize, subband: usize) -> u32 {
+        match self.source(channel, subband) {
+            Source::Nowhere => 0,
+            Source::Transmitted => self.payload.steps[channel][subband],
+            Source::Base(base) => self.base.steps[base][subband],
+            Source::Channel(from) => self.steps(from, subband),
+        }
+    }
+
+    /// The places in the order of the wire: by subband, then channel.
+    pub fn places(&self) -> impl Iterator<Item = (usize, usize)> {
+        let channels = self.layout().channels();
+        (0..32 * channels).map(move |k| (k % channels, k / channels))
+    }
+
+    pub fn head_written(&self) -> Written {
+        self.head.written(&self.layout())
+    }
+
+    pub fn payload_written(&self) -> Written {
+        let mut out = Written::default();
+        for (channel, subband) in self.places() {
+            if self.steps(channel, subband) != 0 {
+                out.field(Kind::Scfsi, 2, self.payload.scfsi[channel][subband]);
+            }
+        }
+        self.write_predictors(&mut out);
+        if self.payload.lfe_allocation != 0 {
+            out.field(Kind::LfeScalefactor, 6, self.payload.lfe_scalefactor);
+        }
+        self.write_scalefactors(&mut out);
+        for granule in 0..12 {
+            self.write_granule(&mut out, granule);
+        }
+        out
+    }
+
+    fn write_predictors(&self, out: &mut Written) {
+        let layout = self.layout();
+        for group in 0..8 {
+            for (px, &count) in self.head.counts_of(&layout, group).iter().enumerate() {
+                if count == 0 {
+                    continue;
+                }
+                out.field(Kind::Delay, 3, self.payload.delays[group][px]);
+                for byte in &self.payload.coefficients[group][px][..count as usize] {
+                    out.field(Kind::Coefficient, 8, *byte);
+                }
+            }
+        }
+    }
+
+    fn write_scalefactors(&self, out: &mut Written) {
+        for (channel, subband) in self.places() {
+            if self.steps(channel, subband) == 0 {
+                continue;
+            }
+            let by_part = self.payload.scalefactors[channel][subband];
+            for part in parts_written(self.payload.scfsi[channel][subband]) {
+                out.field(Kind::Scalefactor, 6, by_part[*part]);
+            }
+        }
+    }
+
+    fn write_granule(&self, out: &mut Written, granule: usize) {
+        if self.payload.lfe_allocation != 0 {
+            let width = self.payload.lfe_allocation + 1;
+            out.field(Kind::LfeSample, width, self.payload.lfe_codes[granule]);
+        }
+        for (channel, subband) in self.places() {
+            let steps = self.steps(channel, subband);
+            if steps == 0 || self.source(channel, subband) != Source::Transmitted {
+                continue;
+            }
+            let codes = self.payload.codes[granule][channel][subband];
+            if grouped(steps) {
+                out.field(Kind::GroupCode, code_width(steps), codes[0]);
+            } else {
+                for code in codes {
+                    out.field(Kind::Sample, code_width(steps), code);
+                }
+            }
+        }
+    }
+
+    /// The frame as it is lent.
+    pub fn input(&self) -> FrameInput {
+        let (head, payload) = (self.head_written(), self.payload_written());
+        FrameInput {
+            head: head.bytes,
+            head_bits: head.bits,
+            payload: payload.bytes,
+            payload_bits: payload.bits,
+            sample_rate: self.sample_rate,
+            base_channels: self.base_channels,
+            base_raw: self.base.raw.clone(),
+            base_scaled: self.base.scaled.clone(),
+            base_nb_steps: self.base.steps,
+            lfe_allocation: self.payload.lfe_allocation,
+            nb_steps: self.payload.steps,
+        }
+    }
+}
+
+/// The parts of a frame whose scalefactors stand on the wire.
+pub fn parts_written(scfsi: u32) -> &'static [usize] {
+    [&[0, 1, 2][..], &[0, 2], &[0], &[0, 1]][scfsi as usize]
+}
+
+/// For each part of a frame, the part whose scalefactor it has.
+pub fn parts_shared(scfsi: u32) -> [usize; 3] {
+    [[0, 1, 2], [0, 0, 2], [0, 0, 0], [0, 1, 1]][scfsi as usize]
+}

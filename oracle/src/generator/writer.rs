@@ -1,0 +1,83 @@
+//! Writes bit strings, first bit highest, and keeps where each field stands.
+
+/// What a field is.
+#[derive(Debug, Clone, Copy, PartialEq, Eq, Hash)]
+pub enum Kind {
+    /// A header field other than the next one.
+    Header,
+    /// The header's Layer III flag.
+    LayerThree,
+    CheckWord,
+    /// One of the three flags at the beginning of the status.
+    StatusFlag,
+    Tc,
+    LeftRight,
+    Crosstalk,
+    SecondStereo,
+    PredictionFlag,
+    CoefficientCount,
+    Scfsi,
+    Delay,
+    Coefficient,
+    LfeScalefactor,
+    Scalefactor,
+    LfeSample,
+    GroupCode,
+    Sample,
+}
+
+/// Where a field stands.
+#[derive(Debug, Clone, Copy, PartialEq, Eq)]
+pub struct Field {
+    pub kind: Kind,
+    pub at: u64,
+    pub width: u32,
+}
+
+/// A string of bits and its fields, in order.
+#[derive(Debug, Clone, Default, PartialEq, Eq)]
+pub struct Written {
+    pub bytes: Vec<u8>,
+    pub bits: u64,
+    pub fields: Vec<Field>,
+}
+
+impl Written {
+    /// Appends a field; one of no bits leaves no trace.
+    pub fn field(&mut self, kind: Kind, width: u32, value: u32) {
+        assert!(
+            u64::from(value) < 1 << width,
+            "{kind:?}: {value} in {width} bits"
+        );
+        if width == 0 {
+            return;
+        }
+        let at = self.bits;
+        self.fields.push(Field { kind, at, width });
+        self.bits += u64::from(width);
+        self.bytes.resize(self.bits.div_ceil(8) as usize, 0);
+        put(&mut self.bytes, at, width, value);
+    }
+
+    pub fn flag(&mut self, kind: Kind, value: bool) {
+        self.field(kind, 1, u32::from(value));
+    }
+
+    /// The places of the fields of one kind.
+    pub fn all(&self, kind: Kind) -> impl Iterator<Item = Field> + '_ {
+        self.fields.iter().copied().filter(move |f| f.kind == kind)
+    }
+}
+
+/// Writes a number over the bits from `at` on.
+pub fn put(bytes: &mut [u8], at: u64, width: u32, value: u32) {
+    for k in 0..width {
+        let place = at + u64::from(k);
+        let mask = 0x80 >> (place % 8);
+        let byte = &mut bytes[(place / 8) as usize];
+        match (value >> (width - 1 - k)) & 1 {
+            1 => *byte |= mask,
+            _ => *byte &= !mask,
+        }
+    }
+}

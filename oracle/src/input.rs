@@ -1,0 +1,82 @@
+//! What is lent to a frame, in the shapes that the published code has.
+
+use crate::bitalloc::NUM_SUBBANDS;
+use crate::header::{Emphasis, FrameHeader, Mode, ModeExtension};
+
+/// Subband values of one channel: 36 slots of 32 subbands.
+pub type Slots = Vec<[f64; NUM_SUBBANDS]>;
+
+/// Everything that is lent but the state. The shapes are the caller's care: each base channel has
+/// 36 slots, and there are as many channels as `base_channels` says, one or two.
+#[derive(Debug, Clone, PartialEq)]
+pub struct FrameInput {
+    /// Header, check word and composite status, first bit highest.
+    pub head: Vec<u8>,
+    pub head_bits: u64,
+    /// From the scfsi codes on.
+    pub payload: Vec<u8>,
+    pub payload_bits: u64,
+    pub sample_rate: u32,
+    pub base_channels: usize,
+    /// Requantised base values, by channel, slot and subband.
+    pub base_raw: Vec<Slots>,
+    /// The same, scaled.
+    pub base_scaled: Vec<Slots>,
+    /// Step counts of the base; the second row of a mono base is not read.
+    pub base_nb_steps: [[u32; NUM_SUBBANDS]; 2],
+    /// 0 to 15.
+    pub lfe_allocation: u32,
+    /// Step counts of the transmitted places; those of other places are not read.
+    pub nb_steps: [[u32; NUM_SUBBANDS]; 3],
+}
+
+/// What the span calls `base`: the published `BaseSubbands` with its values borrowed.
+pub(crate) struct Base<'a> {
+    pub(crate) header: FrameHeader,
+    pub(crate) raw: &'a [Slots],
+    pub(crate) scaled: &'a [Slots],
+    pub(crate) nb_steps: [[u32; NUM_SUBBANDS]; 2],
+}
+
+impl Base<'_> {
+    /// A base of which the header alone is wanted.
+    pub(crate) fn without_values(sample_rate: u32, base_channels: usize) -> Self {
+        Base {
+            header: base_header(sample_rate, base_channels),
+            raw: &[],
+            scaled: &[],
+            nb_steps: [[0; NUM_SUBBANDS]; 2],
+        }
+    }
+}
+
+impl FrameInput {
+    pub(crate) fn base(&self) -> Base<'_> {
+        Base {
+            header: base_header(self.sample_rate, self.base_channels),
+            raw: &self.base_raw,
+            scaled: &self.base_scaled,
+            nb_steps: self.base_nb_steps,
+        }
+    }
+}
+
+/// The span reads the rate and the mode of a base header, and the latter only for whether it is mono.
+fn base_header(sample_rate: u32, base_channels: usize) -> FrameHeader {
+    FrameHeader {
+        lsf: false,
+        bit_rate: 0,
+        sample_rate,
+        padding: false,
+        private_bit: false,
+        mode: match base_channels {
+            1 => Mode::SingleChannel,
+            _ => Mode::Stereo,
+        },
+        mode_extension: ModeExtension::Bound4,
+        copyright: false,
+        original: false,
+        emphasis: Emphasis::None,
+        protection_bit: true,
+    }
+}

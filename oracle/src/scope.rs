@@ -1,0 +1,164 @@
+//! Document 01's side of a frame: flat buffers, the state with its counter, and the three refusals
+//! that the published code does not have. Those (6, 7 and 8) are written here by hand; every other
+//! refusal and every value is the reference's.
+
+use crate::bitalloc::class_of_quantization;
+use crate::input::{FrameInput, Slots};
+use crate::mc::{McDecodeState, McError};
+use crate::output::FrameOutput;
+use crate::{reference_frame, reference_places};
+
+/// A refusal by document 01's number; group and code are 0 except under 2.
+#[derive(Debug, Clone, Copy, PartialEq, Eq, Hash)]
+pub struct Refusal {
+    pub number: u32,
+    pub group: u32,
+    pub code: u32,
+}
+
+impl Refusal {
+    pub const fn plain(number: u32) -> Refusal {
+        Refusal {
+            number,
+            group: 0,
+            code: 0,
+        }
+    }
+}
+
+impl From<McError> for Refusal {
+    fn from(error: McError) -> Refusal {
+        match error {
+            McError::UnexpectedEnd => Refusal::plain(1),
+            McError::ForbiddenDynCrossMode { sbgr, mode } => Refusal {
+                number: 2,
+                group: sbgr as u32,
+                code: u32::from(mode),
+            },
+            McError::MlLayer3Unsupported => Refusal::plain(3),
+            McError::ReservedScalefactor => Refusal::plain(4),
+            McError::ConfigChanged => Refusal::plain(5),
+            other => unreachable!("the span does not say: {other}"),
+        }
+    }
+}
+
+/// The decoder's state.
+#[derive(Debug, Clone, PartialEq)]
+pub struct State {
+    /// 576 values, at `(base * 32 + subband) * 9 + k`.
+    pub history: Vec<f64>,
+    /// Channels of the layout, 0 for none yet.
+    pub count: u32,
+    /// Accepted frames.
+    pub frames: u32,
+}
+
+impl State {
+    pub fn fresh() -> State {
+        State {
+            history: vec![0.0; 576],
+            count: 0,
+            frames: 0,
+        }
+    }
+}
+
+/// What an accepted frame writes. A refused frame writes none of it.
+#[derive(Debug, Clone, PartialEq)]
+pub struct Buffers {
+    /// 3,456 values, at `(channel * 36 + slot) * 32 + subband`.
+    pub raw: Vec<f64>,
+    /// The same number.
+    pub work: Vec<f64>,
+    /// 5,760 values.
+    pub output: Vec<f64>,
+    /// 12 values.
+    pub lfe: Vec<f64>,
+}
+
+impl Buffers {
+    pub fn of(frame: &FrameOutput) -> Buffers {
+        Buffers {
+            raw: flat(&frame.payload.raw_mc, 3),
+            work: flat(&frame.span.scaled_mc, 3),
+            output: flat(&frame.span.out_sub, 5),
+            lfe: frame.span.lfe_samples.clone(),
+        }
+    }
+}
+
+/// Channels one after another, +0 in those that are not there.
+fn flat(channels: &[Slots], count: usize) -> Vec<f64> {
+    let slots = channels.iter().flatten();
+    let mut values: Vec<f64> = slots.flatten().copied().collect();
+    values.resize(count * 36 * 32, 0.0);
+    values
+}
+
+/// A frame by document 01: its refusal or its values, and the state afterwards.
+pub fn judge(input: &FrameInput, state: &mut State) -> Result<FrameOutput, Refusal> {
+    if !rightly_lent(input, state) {
+        return Err(Refusal::plain(6));
+    }
+    if !values_in_range(input, state) {
+        return Err(Refusal::plain(7));
+    }
+    if !rightly_allocated(input)? {
+        return Err(Refusal::plain(8));
+    }
+    let held = (state.count != 0).then_some(state.count as usize);
+    let mut decoder = McDecodeState::with(&state.history, held);
+    let answer = reference_frame(input, &mut decoder);
+    state.history = decoder.history();
+    let frame = answer?;
+    state.count = frame.span.layout.len() as u32;
+    state.frames = state.frames.saturating_add(1);
+    Ok(frame)
+}
+
+/// No reason for refusal 6.
+fn rightly_lent(input: &FrameInput, state: &State) -> bool {
+    let string = |bytes: &[u8], bits| bytes.len() <= 8192 && bits <= 8 * bytes.len() as u64;
+    let shaped = |channels: &[Slots]| {
+        channels.len() == input.base_channels && channels.iter().all(|slots| slots.len() == 36)
+    };
+    string(&input.head, input.head_bits)
+        && string(&input.payload, input.payload_bits)
+        && matches!(input.sample_rate, 32_000 | 44_100 | 48_000)
+        && matches!(input.base_channels, 1 | 2)
+        && shaped(&input.base_raw)
+        && shaped(&input.base_scaled)
+        && input.lfe_allocation <= 15
+        && input.base_nb_steps[..input.base_channels]
+            .iter()
+            .flatten()
+            .all(|&steps| known(steps))
+        && state.history.len() == 576
+        && state.count <= 5
+}
+
+/// 0 or one of the 17 step counts.
+fn known(steps: u32) -> bool {
+    steps == 0 || class_of_quantization(steps).is_some()
+}
+
+/// No reason for refusal 7.
+fn values_in_range(input: &FrameInput, state: &State) -> bool {
+    let base = input.base_raw.iter().chain(&input.base_scaled);
+    let base = base.flatten().flatten();
+    base.chain(&state.history)
+        .all(|value| (-4.0..=4.0).contains(value))
+}
+
+/// No reason for refusal 8, of a head that is not refused itself.
+fn rightly_allocated(input: &FrameInput) -> Result<bool, McError> {
+    let head = crate::reference_head(&input.head, input.head_bits, input.base_channels)?;
+    let places = reference_places(input)?;
+    let lfe = head.mc_header.lfe || input.lfe_allocation == 0;
+    let step_counts = (0..96).all(|k| {
+        let steps = input.nb_steps[k / 32][k % 32];
+        known(steps) && (steps == 0 || places.transmitted(k / 32, k % 32))
+    });
+    Ok(lfe && step_counts)
+}
