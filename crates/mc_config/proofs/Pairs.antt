@@ -1,4 +1,4 @@
--- What is left of a match on front and surround after the arms `32`, `31 | 22` and `30 | 21`. Assumes nothing.
+-- What is left of a match on front and surround after the arms `32`, `31 | 22` and `30 | 21`.
 use mathlib.Core.Path.{_≡_}
 use mathlib.Core.Logic.{_⊎_, inl, inr}
 use Prim.Native.Nat.{ℕ}

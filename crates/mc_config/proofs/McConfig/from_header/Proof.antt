@@ -1,4 +1,4 @@
--- `McConfig::from_header` meets its contract. Assumes nothing.
+-- `McConfig::from_header` meets its contract.
 use mathlib.Core.Logic.{⊎-elim}
 use native.Mathlib.Omega.{arith}
 use borrow.Author.Tests.{ne-eqb}

@@ -1,4 +1,4 @@
--- `McConfig::layout` meets its contract. Assumes nothing.
+-- `McConfig::layout` meets its contract.
 use mathlib.Core.Path.{_≡_}
 use mathlib.Core.List.{[], _∷_, _++_, append-nil}
 use Prim.Native.Nat.{ℕ, _<_}

@@ -1,4 +1,4 @@
--- `McConfig::main_nmch` meets its contract. Assumes nothing.
+-- `McConfig::main_nmch` meets its contract.
 use mathlib.Core.Path.{_∙_, ap}
 use borrow.Author.Needs.{needs}
 use Rattle.mc_config.specs.Config.{mainOf}

@@ -1,4 +1,4 @@
--- `config::front_of` meets its contract. Assumes nothing.
+-- `config::front_of` meets its contract.
 use mathlib.Core.Logic.{⊎-elim, inl, inr}
 use borrow.Author.Tests.{ne-eqb}
 use Rattle.mc_config.proofs.config.front_of.Statement.{statement}

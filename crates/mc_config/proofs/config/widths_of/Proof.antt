@@ -1,4 +1,4 @@
--- `config::widths_of` meets its contract. Assumes nothing.
+-- `config::widths_of` meets its contract.
 use mathlib.Core.Path.{refl}
 use mathlib.Core.Logic.{⊎-elim, inl, inr}
 use Rattle.mc_config.specs.CaseLaws.{other, byPair-other}

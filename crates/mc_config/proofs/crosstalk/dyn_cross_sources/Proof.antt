@@ -1,4 +1,4 @@
--- `crosstalk::dyn_cross_sources` meets its contract: each of its tables is the definition's, with fillers after the rows. Assumes nothing.
+-- `crosstalk::dyn_cross_sources` meets its contract: each of its tables is the definition's, with fillers after the rows.
 use mathlib.Core.Path.{_≡_, sym, _∙_}
 use mathlib.Core.Bool.{cond}
 use mathlib.Core.List.{[], map}

@@ -1,4 +1,4 @@
--- `crosstalk::sources_in` meets its contract. Assumes nothing.
+-- `crosstalk::sources_in` meets its contract.
 use mathlib.Core.Path.{refl}
 use mathlib.Core.List.{[]}
 use borrow.Author.Needs.{needs}

@@ -1,4 +1,4 @@
--- `groups::sbgr_of_subband` meets its contract. Assumes nothing.
+-- `groups::sbgr_of_subband` meets its contract.
 use native.Mathlib.Omega.{arith}
 use borrow.Author.Tests.{lt-ltb, le-ltb}
 use Rattle.mc_config.specs.Groups.{sbgrOf}

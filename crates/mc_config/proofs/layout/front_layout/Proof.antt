@@ -1,4 +1,4 @@
--- `layout::front_layout` meets its contract. Assumes nothing.
+-- `layout::front_layout` meets its contract.
 use borrow.Author.Tests.{ne-eqb}
 use Rattle.mc_config.proofs.layout.front_layout.Statement.{statement}
 use Rattle.mc_config.proofs.layout.front_layout.Tie as tie

@@ -1,4 +1,4 @@
--- `predictors::channels_in` meets its contract. Assumes nothing.
+-- `predictors::channels_in` meets its contract.
 use mathlib.Core.Path.{refl, sym}
 use mathlib.Core.List.{[]}
 use borrow.Author.Needs.{needs}

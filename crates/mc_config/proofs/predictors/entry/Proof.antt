@@ -1,4 +1,4 @@
--- `predictors::entry` meets its contract. Assumes nothing.
+-- `predictors::entry` meets its contract.
 use mathlib.Core.Path.{sym}
 use lib.ListN.{List·getD-eq-default}
 use borrow.Author.Needs.{needs}

@@ -1,4 +1,4 @@
--- `predictors::npred_for` meets its contract. Assumes nothing.
+-- `predictors::npred_for` meets its contract.
 use mathlib.Core.Path.{_∙_, sym}
 use mathlib.Core.Logic.{⊎-elim}
 use Rattle.mc_config.specs.CrosstalkLaws.{predictors-other}

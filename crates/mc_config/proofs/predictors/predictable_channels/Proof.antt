@@ -1,4 +1,4 @@
--- `predictors::predictable_channels` meets its contract: each of its tables is the standard's, with fillers after the rows. Assumes nothing.
+-- `predictors::predictable_channels` meets its contract: each of its tables is the standard's, with fillers after the rows.
 use mathlib.Core.Path.{_≡_, _∙_, ap}
 use mathlib.Core.List.{[], map}
 use mathlib.Core.Logic.{⊎-elim}
@@ -6,7 +6,6 @@ use Prim.Native.Nat.{ℕ, _/_}
 use native.Mathlib.Omega.{arith}
 use borrow.Author.Needs.{needs}
 use lib.ListN.{getD, length, List·getD-map}
-use Rattle.mc_config.specs.CaseLaws.{byPair-other}
 use Rattle.mc_config.specs.Crosstalk.{predictedOf, predictorsOf}
 use Rattle.mc_config.specs.CrosstalkLaws.{predictors-even, predicted-other}
 use Rattle.mc_config.specs.Predictors.{predictable1, predictable2, predictable3, predictableRows, predictableTable}

@@ -1,4 +1,4 @@
--- `roles::base_of` meets its contract. Assumes nothing.
+-- `roles::base_of` meets its contract.
 use mathlib.Core.Path.{_∙_, ap}
 use borrow.Author.Tests.{ne-eqb}
 use borrow.Author.Needs.{needs}

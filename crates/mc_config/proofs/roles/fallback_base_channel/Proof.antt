@@ -1,4 +1,4 @@
--- `roles::fallback_base_channel` meets its contract. Assumes nothing.
+-- `roles::fallback_base_channel` meets its contract.
 use mathlib.Core.Path.{_≡_}
 use mathlib.Core.Bool.{Bool, cond}
 use mathlib.Core.Logic.{_⊎_, ⊎-elim, inl, inr}

@@ -1,4 +1,4 @@
--- `roles::roles_in` meets its contract. Assumes nothing.
+-- `roles::roles_in` meets its contract.
 use mathlib.Core.Path.{refl}
 use borrow.Author.Tests.{lt-ltb, le-ltb}
 use borrow.Author.Needs.{needs}

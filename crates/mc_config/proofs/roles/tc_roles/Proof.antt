@@ -1,4 +1,4 @@
--- `roles::tc_roles` meets its contract: each of its tables is the definition's, with fillers after the rows. Assumes nothing.
+-- `roles::tc_roles` meets its contract: each of its tables is the definition's, with fillers after the rows.
 use mathlib.Core.Path.{_≡_, sym, _∙_}
 use mathlib.Core.List.{map}
 use Prim.Native.Nat.{ℕ, _<_}

@@ -1,4 +1,4 @@
--- `Layout::push` meets its contract. Assumes nothing.
+-- `Layout::push` meets its contract.
 use mathlib.Core.Path.{sym}
 use mathlib.Core.List.{[], _∷_}
 use Prim.Native.Nat.{_<_}

@@ -1,4 +1,4 @@
--- `Roles::role` meets its contract. Assumes nothing.
+-- `Roles::role` meets its contract.
 use mathlib.Core.Path.{_≡_, sym}
 use native.Mathlib.Omega.{arith}
 use borrow.Author.Needs.{needs}
