@@ -17,3 +17,4 @@ pub mod TableFits
 pub mod Total
 pub mod TotalLaws
 pub mod Zeros
+pub mod WidthTotal

@@ -1,5 +1,5 @@
 -- How many bits a program uses at the most.
-use mathlib.Core.Path.{_≡_, refl}
+use mathlib.Core.Path.{_≡_}
 use mathlib.Core.Bool.{Bool, true, false, cond}
 use mathlib.Core.List.{List}
 use Prim.Native.Nat.{ℕ, zero, suc, _+_, _*_, _-_, _^_, _≤_, _<_}
@@ -39,10 +39,10 @@ module _ {A : Type 0} where
   pub most-le : {m : Syntax A} {w w′ : ℕ} → w ≤ w′ → AtMost m w → AtMost m w′
   most-le {m} {w} {w′} h e = record { bits = bounded-le m w w′ h (e .bits) }
 
-  -- a field, and w bits after it
-  pub most-field : {n : ℕ} {k : ℕ → Syntax A} {w : ℕ} → ((v : ℕ) → v < 2 ^ n → AtMost (k v) w) → AtMost (field n k) (n + w)
+  -- a field, and w′ bits after it
+  pub most-field : {n : ℕ} {k : ℕ → Syntax A} {w : ℕ} (w′ : ℕ) → n + w′ ≤ w → ((v : ℕ) → v < 2 ^ n → AtMost (k v) w′) → AtMost (field n k) w
   unfolding Bounded
-  most-field {n} {k} {w} h = record { bits = (omega arith, λ v b. let e : n + w - n ≡ w = omega arith in rw e (h v b .bits)) }
+  most-field {n} {k} {w} w′ e h = record { bits = (omega arith, λ v b. bounded-le (k v) w′ (w - n) (omega arith) (h v b .bits)) }
 
   pub most-cond : (t : Bool) {m m′ : Syntax A} {w : ℕ} → AtMost m w → AtMost m′ w → AtMost (cond t m m′) w
   most-cond true f g = f
@@ -57,19 +57,19 @@ bounded-bind (field n g) k w w′ h f =
     let e : w + w′ - n ≡ w - n + w′ = omega arith in
     (omega arith, λ v b. rw e (bounded-bind (g v) k (w - n) w′ (h .1 v b) f))
 
-pub most-bind : {A B : Type 0} {m : Syntax A} {k : A → Syntax B} {w w′ : ℕ} → AtMost m w → ((a : A) → AtMost (k a) w′) → AtMost (bind m k) (w + w′)
-most-bind {m = m} {k = k} {w = w} {w′ = w′} h f = record { bits = bounded-bind m k w w′ (h .bits) f }
+-- a part of w bits, and w′ bits after it
+pub most-bind : {A B : Type 0} {m : Syntax A} {k : A → Syntax B} {w u : ℕ} (w′ : ℕ) → w + w′ ≤ u → AtMost m w → ((a : A) → AtMost (k a) w′) → AtMost (bind m k) u
+most-bind {m = m} {k = k} {w = w} w′ e h f = most-le e (record { bits = bounded-bind m k w w′ (h .bits) f })
 
-pub most-both : {A B : Type 0} {m : Syntax A} {k : A → Syntax B} {w w′ : ℕ} → AtMost m w → ((a : A) → AtMost (k a) w′) → AtMost (both m k) (w + w′)
+pub most-both : {A B : Type 0} {m : Syntax A} {k : A → Syntax B} {w u : ℕ} (w′ : ℕ) → w + w′ ≤ u → AtMost m w → ((a : A) → AtMost (k a) w′) → AtMost (both m k) u
 unfolding both
-most-both {w = w} {w′ = w′} h f =
-    most-bind h (λ a. most-le {w = w′ + 0} (omega arith) (most-bind (f a) (λ b. most-done)))
+most-both w′ e h f = most-bind w′ e h (λ a. most-bind {w = w′} 0 (omega arith) (f a) (λ b. most-done))
 
 -- n turns of at most w bits each
 pub most-times : {A : Type 0} (n i : ℕ) {f : ℕ → A → Syntax A} (a : A) {w : ℕ} → ((j : ℕ) (a : A) → AtMost (f j a) w) → AtMost (times n i f a) (n * w)
 unfolding times
 most-times zero i a turn = most-done
-most-times (suc n) i a {w} turn = most-le {w = w + n * w} {w′ = suc n * w} (omega arith) (most-bind (turn i a) (λ a′. most-times n (suc i) a′ turn))
+most-times (suc n) i a {w} turn = most-bind {w = w} (n * w) (omega arith) (turn i a) (λ a′. most-times n (suc i) a′ turn)
 
 -- ---- what a run uses
 

@@ -2,12 +2,14 @@
 use mathlib.Core.Path.{_≡_, refl, _∙_}
 use mathlib.Core.Bool.{Bool, true, false, cond}
 use mathlib.Core.List.{List}
-use Prim.Native.Nat.{ℕ, zero, suc, _+_, _≤_, _<_}
-use native.Mathlib.Nat.{add-zero, add-assoc}
+use Prim.Native.Nat.{ℕ, zero, suc, _+_, _/_, _≤_, _<_}
+use native.Mathlib.Nat.{add-zero, add-assoc, zero-div}
 use native.Mathlib.Omega.{arith}
+use lib.ListN.{getD, replicate}
 use Rattle.bits.specs.Bits.{bitAt, valueAt}
 use Rattle.bits.specs.Syntax.{Syntax, done, field, accepted, run, bind, both, times, andThen}
 use Rattle.bits.specs.SyntaxLaws.{run-fits, run-bind}
+use Rattle.bits.specs.Entries.{entries-zero}
 use Rattle.bits.specs.Total.{total}
 
 abbrev pub Zeros : List ℕ → Type 0
@@ -75,3 +77,12 @@ pub zeros-total : {A : Type 0} (n i : ℕ) {f : ℕ → A → Syntax A} (a : A) 
 unfolding times total
 zeros-total zero i a w h turn = zeros-done h
 zeros-total (suc n) i a w h turn = zeros-bind (turn i a (omega arith) h) (λ a′ h′. zeros-total n (suc i) a′ w h′ (λ j a″ l. turn j a″ (omega arith)))
+
+-- ---- a string of zeros
+
+pub zero-at : (n k : ℕ) → getD {A = ℕ} (replicate n 0) k 0 ≡ 0
+zero-at n k = entries-zero n {Q = λ _ v. v ≡ 0} (λ _. refl) .entry k
+
+pub zeros-string : (n : ℕ) → Zeros (replicate n 0)
+unfolding bitAt
+zeros-string n i = rw (zero-at n (i / 8), zero-div)

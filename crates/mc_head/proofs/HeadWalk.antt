@@ -1,0 +1,115 @@
+-- The whole head from its first bit, and the answer by cases.
+use mathlib.Core.Path.{_≡_, refl, ap, _∙_}
+use mathlib.Core.Bool.{Bool, true, false, not, cond}
+use mathlib.Core.List.{List}
+use mathlib.Core.Logic.{⊎-elim}
+use Prim.Native.Nat.{ℕ, _≤_, _<_}
+use native.Mathlib.Omega.{arith}
+use borrow.Author.Tests.{not-true, not-false, lt-ltb, le-ltb}
+use lib.Dec.{ltb}
+use Rattle.bits.specs.Syntax.{Refusal, plain, Syntax, done, refuse, Outcome, refused, run, bind, both}
+use Rattle.bits.specs.Cursor.{step, runFrom}
+use Rattle.bits.specs.CursorLaws.{start, ended, ended-refused, ended-refuse, advance, bind-as, goes-on-from}
+use Rattle.bits.specs.Ran.{Ran}
+use Rattle.bits.specs.declared.Cursor.{Cursor}
+use Rattle.mc_config.specs.Config.{configOf, pairOf}
+use Rattle.mc_config.specs.ConfigLaws.{tc-bits-config, cross-bits-config}
+use Rattle.mc_config.specs.declared.McConfig.{McConfig}
+use Rattle.mc_config.specs.declared.McHeader.{McHeader}
+use Rattle.mc_error.specs.Error.{refusalOf}
+use Rattle.mc_error.specs.declared.McError.{McError}
+use Rattle.mc_error.specs.declared.McError.the-variants.{UnexpectedEnd, ForbiddenDynCrossMode, InvalidArgument}
+use Rattle.mc_head.specs.Answer.{valuesOf, outcomeOf, noHead, valuesAfter}
+use Rattle.mc_head.specs.Head.{mcHeader, mcErrorCheck, modeAt, firstForbidden, checkModes, mcCompositeStatusInfo, head}
+use Rattle.mc_head.specs.HeadYields.{head-refused}
+use Rattle.mc_head.specs.Lent.{stringFits, baseFits, headOf}
+use Rattle.mc_head.specs.declared.HeadAnswer.the-variants.{Accepted, Refused}
+use Rattle.mc_head.specs.declared.McHead.{McHead}
+use Rattle.mc_head.specs.declared.McStatus.{McStatus}
+
+-- a part that goes on as the test of the codes, with a value made of its own
+check-as : {A B : Type 0} (b : List ℕ) (l : ℕ) (c c′ : Cursor) (m : Syntax A) (pair : ℕ) (cross : List ℕ) (a : A) (f : A → B)
+    → runFrom b l c m ≡ runFrom b l c′ (checkModes pair cross a) → runFrom b l c (bind m (λ x. done (f x))) ≡ runFrom b l c′ (checkModes pair cross (f a))
+unfolding checkModes bind
+check-as b l c c′ m pair cross a f e =
+    let g = firstForbidden pair cross 12 0 in
+    bind-as b l c c′ m (checkModes pair cross a) (λ x. done (f x)) e ∙ ap (runFrom b l c′) (go (ltb g 12) (record { number = 2; group = g; code = modeAt cross g }))
+  where
+    go : (t : Bool) (x : Refusal) → bind (cond t (refuse x) (done a)) (λ x. done (f x)) ≡ cond t (refuse x) (done (f a))
+    go true x = refl
+    go false x = refl
+
+-- ---- the parts in a row
+
+module _ (b : List ℕ) (l baseChannels : ℕ) (hc word end : Cursor) (h : McHeader) (config : McConfig) (s : McStatus) (pair : ℕ)
+    (e₁ : Ran b l (record { err = 0; at = 0; value = 0 }) mcHeader hc h)
+    (e₂ : word ≡ step b l hc 16)
+    (e₃ : config ≡ configOf h baseChannels)
+    (e₄ : runFrom b l word (mcCompositeStatusInfo config) ≡ runFrom b l end (checkModes (pairOf config) (s .«dyn_cross») s))
+    (e₅ : pair ≡ pairOf config)
+  where
+    withWord : McStatus → ℕ × McStatus
+    withWord s = (word .value, s)
+
+    withHeader : ℕ × McStatus → McHeader × (ℕ × McStatus)
+    withHeader x = (h, x)
+
+    pub fields-read : run (head baseChannels) b l 0 ≡ runFrom b l end (checkModes pair (s .«dyn_cross») (h, (word .value, s)))
+    unfolding head both mcErrorCheck bind withWord withHeader
+    fields-read =
+        let last = check-as b l word end (mcCompositeStatusInfo config) (pairOf config) (s .«dyn_cross») s withWord e₄ in
+        let all = check-as b l word end (bind (mcCompositeStatusInfo config) (λ s. done (withWord s))) (pairOf config) (s .«dyn_cross») (withWord s) withHeader last in
+        start b l 0 0 (head baseChannels)
+        ∙ goes-on-from b l (record { err = 0; at = 0; value = 0 }) hc mcHeader h (λ h. bind (both mcErrorCheck (λ word. mcCompositeStatusInfo (configOf h baseChannels))) (λ x. done (h, x))) (e₁ .same)
+        ∙ rw (advance, ← e₂, ← e₃, e₅) all
+
+-- the widths of a configuration are those of a byte at the most
+pub widths-fit : (h : McHeader) (baseChannels : ℕ) (c : McConfig) → c ≡ configOf h baseChannels → (c .«tc_allocation_bits» ≤ 8) × (c .«dyn_cross_bits» ≤ 8)
+widths-fit h baseChannels c e = rw e (omega (arith, tc-bits-config h baseChannels), omega (arith, cross-bits-config h baseChannels))
+
+-- ---- the answers
+
+-- r is the answer to the outcome o
+abbrev Answers : Outcome (McHeader × (ℕ × McStatus)) → McHead → Type 0
+Answers o r = (outcomeOf r ≡ o) × (valuesOf r ≡ valuesAfter o)
+
+refused-answers : (o : Outcome (McHeader × (ℕ × McStatus))) (e : McError) (r : McHead) → o ≡ refused (refusalOf e) → (r .answer ≡ Refused e) × (valuesOf r ≡ noHead) → Answers o r
+refused-answers o e r q t = rw (q, t .0) (refl, t .1)
+
+module _ (bytes : List ℕ) (bits baseChannels : ℕ) (s : Bool) (es : s ≡ stringFits bytes bits) where
+  pub wrong-string : (r : McHead) → not s ≡ true → (r .answer ≡ Refused InvalidArgument) × (valuesOf r ≡ noHead) → Answers (headOf bytes bits baseChannels) r
+  unfolding headOf
+  wrong-string r n t = refused-answers (headOf bytes bits baseChannels) InvalidArgument r (rw (← es, not-true s n)) t
+
+  module _ (ns : not s ≡ false) (f : Bool) (ef : f ≡ baseFits baseChannels) where
+    pub wrong-base : (r : McHead) → not f ≡ true → (r .answer ≡ Refused InvalidArgument) × (valuesOf r ≡ noHead) → Answers (headOf bytes bits baseChannels) r
+    unfolding headOf
+    wrong-base r n t = refused-answers (headOf bytes bits baseChannels) InvalidArgument r (rw (← es, ← ef, not-false s ns, not-true f n)) t
+
+    module _ (nf : not f ≡ false) (end : Cursor) (pair word : ℕ) (h : McHeader) (status : McStatus)
+        (e : run (head baseChannels) bytes bits 0 ≡ runFrom bytes bits end (checkModes pair (status .«dyn_cross») (h, (word, status))))
+      where
+        lent : headOf bytes bits baseChannels ≡ run (head baseChannels) bytes bits 0
+        unfolding headOf
+        lent = rw (← es, ← ef, not-false s ns, not-false f nf)
+
+        -- a cursor keeps no other refusal than 1
+        pub short : (r : McHead) → (end .err ≡ 0 → ⊥) → (r .answer ≡ Refused UnexpectedEnd) × (valuesOf r ≡ noHead) → Answers (headOf bytes bits baseChannels) r
+        short r z t =
+            let q : run (head baseChannels) bytes bits 0 ≡ refused (plain (end .err)) = e ∙ ended-refused bytes bits end _ z in
+            refused-answers (headOf bytes bits baseChannels) UnexpectedEnd r
+            (lent ∙ q ∙ ⊎-elim (λ p. ap refused p) (λ f. absurd (f .code refl)) (head-refused baseChannels bytes bits 0 (plain (end .err)) q)) t
+
+        module _ (z : end .err ≡ 0) (g : ℕ) (eg : g ≡ firstForbidden pair (status .«dyn_cross») 12 0) where
+          pub forbidden : (r : McHead) → g < 12 → (r .answer ≡ Refused (ForbiddenDynCrossMode g (modeAt (status .«dyn_cross») g))) × (valuesOf r ≡ noHead) → Answers (headOf bytes bits baseChannels) r
+          unfolding checkModes
+          forbidden r b t =
+              let q : run (head baseChannels) bytes bits 0 ≡ runFrom bytes bits end (refuse (record { number = 2; group = g; code = modeAt (status .«dyn_cross») g })) = e ∙ rw (← eg, lt-ltb g 12 b) in
+              refused-answers (headOf bytes bits baseChannels) (ForbiddenDynCrossMode g (modeAt (status .«dyn_cross») g)) r (lent ∙ q ∙ ended-refuse bytes bits end _ z) t
+
+          pub all-listed : 12 ≤ g → Answers (headOf bytes bits baseChannels) (record { answer = Accepted (end .at); header = h; «check_word» = word; status = status })
+          unfolding checkModes
+          all-listed b =
+              let values : McHeader × (ℕ × McStatus) = (h, (word, status)) in
+              let q : run (head baseChannels) bytes bits 0 ≡ runFrom bytes bits end (done values) = e ∙ rw (← eg, le-ltb g 12 b) in
+              rw (lent, q, ended bytes bits end values z) (refl, refl)

@@ -1,0 +1,4 @@
+pub mod Fields
+pub mod HeaderWalk
+pub mod StatusWalk
+pub mod HeadWalk

@@ -1,0 +1,10 @@
+pub mod Head
+pub mod Lent
+pub mod Answer
+pub mod BitsIfLaws
+pub mod ForbiddenLaws
+pub mod StatusYields
+pub mod HeadYields
+pub mod HeadRecovers
+pub mod HeadWidth
+pub mod LongestHead

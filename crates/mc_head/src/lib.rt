@@ -1,0 +1,168 @@
+// Reads a head string: mc_header(), the check word, and mc_composite_status_info() (ISO/IEC 13818-3, 2.5.1.13 to 2.5.1.15).
+ghost use mathlib.Core.Path.{_≡_};
+ghost use Rattle.bits.specs.Cursor.{runFrom};
+ghost use Rattle.bits.specs.Syntax.{run};
+ghost use Rattle.mc_head.specs.Answer.{outcomeOf, valuesOf, noHead, valuesAfter};
+ghost use Rattle.mc_head.specs.Head.{checkModes, head};
+ghost use Rattle.mc_head.specs.Lent.{stringFits, baseFits, headOf};
+use bits::Cursor;
+use bits::read;
+use header::read_mc_header;
+use mc_config::McConfig;
+use mc_config::McHeader;
+use mc_error::McError;
+use status::first_forbidden;
+use status::read_status;
+
+mod header;
+mod status;
+
+// mc_composite_status_info() as read; what a field of no bits would hold is 0.
+pub struct McStatus {
+    pub tc_sbgr_select: bool,
+    pub dyn_cross_on: bool,
+    pub mc_prediction_on: bool,
+    pub tc_allocation: [u8; 12],
+    pub dyn_cross_lr: bool,
+    // by group: dyn_cross_mode, dyn_second_stereo
+    pub dyn_cross: [u8; 24],
+    // by group 0 to 7: mc_prediction, then predsi of each of six predictors
+    pub mc_prediction: [u8; 56],
+}
+
+// The bits that the head uses, or why it is refused.
+pub enum HeadAnswer {
+    Accepted(usize),
+    Refused(McError),
+}
+
+// The values stand beside the answer, since no variant can hold an array; after a refusal all are zero.
+pub struct McHead {
+    pub answer: HeadAnswer,
+    pub header: McHeader,
+    pub check_word: u16,
+    pub status: McStatus,
+}
+
+impl McHead {
+    fn refused(e: McError) -> McHead
+        ensures { λ r. ⌜ (r .answer ≡ HeadAnswer.Refused e) × (valuesOf r ≡ noHead) ⌝ }
+    {
+        McHead {
+            answer: HeadAnswer::Refused(e),
+            header: McHeader {
+                ext_bit_stream_present: false,
+                n_ad_bytes: 0,
+                centre: 0,
+                surround: 0,
+                lfe: false,
+                audio_mix: false,
+                dematrix_procedure: 0,
+                no_of_multi_lingual_ch: 0,
+                multi_lingual_fs_half: false,
+                multi_lingual_layer3: false,
+                copyright_identification_bit: false,
+                copyright_identification_start: false,
+            },
+            check_word: 0,
+            status: McStatus {
+                tc_sbgr_select: false,
+                dyn_cross_on: false,
+                mc_prediction_on: false,
+                tc_allocation: [0; 12],
+                dyn_cross_lr: false,
+                dyn_cross: [0; 24],
+                mc_prediction: [0; 56],
+            },
+        }
+    }
+}
+
+// The most bytes of a string.
+pub const MAX_STRING_BYTES: usize = 8192;
+
+// At most as many bytes, and no more bits than they hold.
+pub fn string_fits(bytes: &[u8], bits: usize) -> bool
+    ensures { λ r. ⌜ r ≡ stringFits (now (bytes .entry)) bits ⌝ }
+{
+    bytes.len() <= MAX_STRING_BYTES && bits <= 8 * bytes.len()
+}
+
+// One or two base channels.
+pub fn base_fits(base_channels: u8) -> bool
+    ensures { λ r. ⌜ r ≡ baseFits «base_channels» ⌝ }
+{
+    base_channels == 1 || base_channels == 2
+}
+
+// The fields of a head up to its last bit, and its front and surround as one number.
+struct FieldsRead {
+    cursor: Cursor,
+    pair: u32,
+    header: McHeader,
+    check_word: u16,
+    status: McStatus,
+}
+
+// Reads all of a head; what is left is the test of its codes.
+fn read_fields(bytes: &[u8], limit: usize, base_channels: u8) -> FieldsRead
+    ensures { λ r. ⌜
+        run (head «base_channels») (now (bytes .entry)) limit 0
+        ≡ runFrom (now (bytes .entry)) limit (r .cursor) (checkModes (r .pair) (r .status .«dyn_cross») (r .header, (r .«check_word», r .status)))
+        ⌝ }
+{
+    let start = Cursor {
+        err: 0,
+        at: 0,
+        value: 0,
+    };
+    let first = read_mc_header(bytes, limit, start);
+    let header = first.header;
+    let word = read(bytes, limit, first.cursor, 16);
+    let check_word = word.value as u16;
+    let config = McConfig::from_header(header, base_channels);
+    let last = read_status(bytes, limit, word, config);
+    let cursor = last.cursor;
+    let status = last.status;
+    FieldsRead {
+        cursor,
+        pair: config.pair(),
+        header,
+        check_word,
+        status,
+    }
+}
+
+// Reads the head in the first `bits` bits.
+pub fn read_head(bytes: &[u8], bits: usize, base_channels: u8) -> McHead
+    ensures { λ r. ⌜ outcomeOf r ≡ headOf (now (bytes .entry)) bits «base_channels» ⌝ }
+    ensures { λ r. ⌜ valuesOf r ≡ valuesAfter (headOf (now (bytes .entry)) bits «base_channels») ⌝ }
+{
+    if !string_fits(bytes, bits) {
+        return McHead::refused(McError::InvalidArgument);
+    }
+    if !base_fits(base_channels) {
+        return McHead::refused(McError::InvalidArgument);
+    }
+    let fields = read_fields(bytes, bits, base_channels);
+    let end = fields.cursor;
+    if end.err != 0 {
+        return McHead::refused(McError::UnexpectedEnd);
+    }
+    let status = fields.status;
+    let dyn_cross = status.dyn_cross;
+    let g = first_forbidden(fields.pair, &dyn_cross);
+    if g < McConfig::GROUPS {
+        return McHead::refused(McError::ForbiddenDynCrossMode {
+            sbgr: g,
+            mode: dyn_cross[2 * g],
+        });
+    }
+    let header = fields.header;
+    McHead {
+        answer: HeadAnswer::Accepted(end.at),
+        header,
+        check_word: fields.check_word,
+        status,
+    }
+}
