@@ -1,8 +1,8 @@
 -- The classes of quantization of Layer II: ISO/IEC 11172-3, Table B.4. Definitions only.
--- Document 01 has the decimals of the Rust decide, which are the table's own.
+-- Document 01 takes the decimals of the Rust, which are the table's own.
 use mathlib.Core.Bool.{Bool, true, false, cond}
 use mathlib.Core.List.{List, [], _∷_}
-use Prim.Native.Nat.{ℕ, zero, suc}
+use Prim.Native.Nat.{ℕ, suc}
 use lib.Dec.{eqb, ltb}
 use lib.ListN.{getD}
 use lib.Ieee.{Float, round}
@@ -43,7 +43,7 @@ classes =
     row 32767 100003051851 6103516 false 15 15 ∷
     row 65535 100001525902 3051758 false 16 16 ∷ []
 
--- the class at a place of the table; past its end, a row of nothing
+-- the class at a place of the table; past its end, a row of zeros
 unfoldable pub classAt : ℕ → QuantClass
 unfolding classes
 classAt index = getD classes index (row 0 0 0 false 0 0)

@@ -1,17 +1,15 @@
--- The rules of the classes, each proved once for any of the 17 by one computed test.
-use mathlib.Core.Path.{_≡_, refl, sym, ap, _∙_, subst}
-use mathlib.Core.Bool.{Bool, true, false, not, _&&_, _||_, Bool·beq, cond, false≢true}
-use mathlib.Core.List.{List, [], _∷_}
-use Prim.Native.Nat.{ℕ, zero, suc, _*_, _^_, _≤_, _<_}
-use native.Mathlib.Nat.{le-of-suc-le-suc, not-suc-le-zero}
+-- The rules that a class keeps, proved for any of the 17 by one computed test.
+use mathlib.Core.Path.{_≡_, sym, _∙_, subst}
+use mathlib.Core.Bool.{Bool, true, false, _&&_, _||_, Bool·beq, cond, false≢true}
+use Prim.Native.Nat.{ℕ, _*_, _^_, _≤_, _<_}
 use native.Mathlib.Omega.{arith}
-use lib.Dec.{T, leb, eqb, ltb→lt, nltb→le, leb→le, eqb→eq}
-use lib.ListN.{length, getD, List·getD-eq-default}
+use lib.Dec.{T, leb, eqb, leb→le, eqb→eq}
 use lib.Ieee.Fits.{and-l, and-r}
 use Rattle.floats.specs.Same.{same-bool}
-use Rattle.floats.specs.Table.{every, at}
+use Rattle.floats.specs.Table.{at}
 use Rattle.bitalloc.specs.declared.QuantClass.{QuantClass}
-use Rattle.bitalloc.specs.Classes.{row, classes, classAt, placeIn, classIndex, isClass, classOf}
+use Rattle.bitalloc.specs.Classes.{row, classes, classAt, classIndex, isClass, classOf}
+use Rattle.bitalloc.specs.Places.{class-index-lt}
 
 pub record Rules (class : QuantClass) : Type 0 where
   pub steps-low : 3 ≤ class .«nb_steps»
@@ -66,37 +64,10 @@ group-steps class r e = go (class .«nb_steps») (sym (r .groups) ∙ e)
         pick false false true f g h e = let x = h tt in omega arith
         pick false false false f g h e = absurd (false≢true e)
 
--- by the place in the table
+-- by the place in the table, and by the number of steps
 pub class-rules : (i : ℕ) → i < 17 → Rules (classAt i)
 unfolding classAt
 class-rules i h = rules→ (classAt i) (at (λ _ class. rules class) classes (row 0 0 0 false 0 0) tt i h)
 
--- the classes differ in their steps
-pub class-index-at : (i : ℕ) → i < 17 → classIndex (classAt i .«nb_steps») ≡ i
-unfolding classAt classIndex
-class-index-at i h = eqb→eq _ i (at (λ i class. eqb (classIndex (class .«nb_steps»)) i) classes (row 0 0 0 false 0 0) tt i h)
-
--- by the number of steps
-place-found : (l : List QuantClass) (d : QuantClass) (steps : ℕ) → placeIn l steps < length l → getD l (placeIn l steps) d .«nb_steps» ≡ steps
-place-found [] d steps h = absurd (not-suc-le-zero h)
-place-found (class ∷ l) d steps h = go (eqb (class .«nb_steps») steps) (eqb→eq (class .«nb_steps») steps) (place-found l d steps) h
-  where
-    go : (b : Bool) → (T b → class .«nb_steps» ≡ steps) → (placeIn l steps < length l → getD l (placeIn l steps) d .«nb_steps» ≡ steps)
-        → cond b 0 (suc (placeIn l steps)) < suc (length l) → getD (class ∷ l) (cond b 0 (suc (placeIn l steps))) d .«nb_steps» ≡ steps
-    go true e rest h = e tt
-    go false e rest h = rest (le-of-suc-le-suc h)
-
-pub class-index-lt : (steps : ℕ) → T (isClass steps) → classIndex steps < 17
-class-index-lt steps h = ltb→lt (classIndex steps) 17 h
-
-pub class-steps : (steps : ℕ) → T (isClass steps) → classOf steps .«nb_steps» ≡ steps
-unfolding classAt classIndex
-class-steps steps h = place-found classes (row 0 0 0 false 0 0) steps (class-index-lt steps h)
-
 pub steps-rules : (steps : ℕ) → T (isClass steps) → Rules (classOf steps)
 steps-rules steps h = class-rules (classIndex steps) (class-index-lt steps h)
-
--- any other number of steps
-pub class-none : (steps : ℕ) → T (not (isClass steps)) → classOf steps ≡ row 0 0 0 false 0 0
-unfolding classAt
-class-none steps h = List·getD-eq-default classes (row 0 0 0 false 0 0) (nltb→le (classIndex steps) 17 h)

@@ -1,7 +1,7 @@
 // The classes of quantization of Layer II: ISO/IEC 11172-3, Table B.4.
 ghost use mathlib.Core.Path.{_≡_};
 ghost use Prim.Native.Nat.{_<_};
-ghost use Rattle.bitalloc.specs.Classes.{classAt, classIndex, lookupOf};
+ghost use Rattle.bitalloc.specs.Classes.{classes, classAt, classIndex, lookupOf};
 
 // A row of Table B.4, with the number of bits of one sample. The table's samples per codeword are left out: three where
 // they are grouped, else one.
@@ -161,6 +161,13 @@ const QUANT_CLASSES: [QuantClass; CLASS_COUNT] = [
     },
 ];
 
+// The whole table, for a loop to index: a constant is laid out anew by each call that names it.
+pub fn class_table() -> [QuantClass; CLASS_COUNT]
+    ensures { λ r. ⌜ r ≡ classes ⌝ }
+{
+    QUANT_CLASSES
+}
+
 // A class by its place in the table.
 pub fn class_at(index: usize) -> QuantClass
     requires { ⌜ index < 17 ⌝ }
@@ -173,9 +180,10 @@ pub fn class_at(index: usize) -> QuantClass
 pub fn class_index(nb_steps: u32) -> usize
     ensures { λ r. ⌜ r ≡ classIndex «nb_steps» ⌝ }
 {
+    let table = class_table();
     let mut i: usize = 0;
     while i < CLASS_COUNT {
-        let class = class_at(i);
+        let class = table[i];
         if class.nb_steps == nb_steps {
             return i;
         }

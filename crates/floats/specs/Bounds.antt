@@ -2,7 +2,7 @@
 use mathlib.Core.Path.{_≡_, sym, ap, _∙_, subst}
 use mathlib.Core.List.{List, [], _∷_}
 use Prim.Native.Nat.{ℕ, suc, _+_, _-_, _*_, _^_, _≤_, _<_, zero-le}
-use native.Mathlib.Nat.{le-trans, le-of-eq, zero-mul, mul-one, mul-assoc, mul-comm, mul-left-comm, mul-le-mul-right, mul-le-mul, mul-pos, add-mul, le-of-mul-le-mul-right, suc-mul, mul-mul-mul-comm, add-zero}
+use native.Mathlib.Nat.{le-trans, le-of-eq, zero-mul, mul-assoc, mul-comm, mul-left-comm, mul-le-mul-right, mul-le-mul, mul-pos, add-mul, le-of-mul-le-mul-right, suc-mul, mul-mul-mul-comm, add-zero}
 use native.Mathlib.Omega.{arith}
 use mathlib.Core.Bool.{Bool, true, false, _&&_, Bool·beq, cond}
 use lib.Dec.{T, ltb}

@@ -1,6 +1,6 @@
 -- A float held between two fractions over one denominator, through one rounding: rounding keeps the order, and leaves a bound that the format holds where it is.
 use mathlib.Core.Path.{_≡_, refl, sym, _∙_, subst}
-use Prim.Native.Nat.{ℕ, _+_, _*_, _^_, _≤_, _<_, zero-le}
+use Prim.Native.Nat.{ℕ, _*_, _^_, _≤_, _<_, zero-le}
 use native.Mathlib.Nat.{le-refl, le-trans, le-of-eq, le-of-lt, le-of-mul-le-mul-right}
 use mathlib.Core.Bool.{Bool, true, false, _&&_, _||_, true≢false}
 use lib.Dec.{T, ltb, eqb, eqb→eq, ltb→lt}

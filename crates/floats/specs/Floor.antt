@@ -1,5 +1,5 @@
 -- A fraction cut down to a whole number, and the next one up.
-use mathlib.Core.Path.{_≡_, sym}
+use mathlib.Core.Path.{sym}
 use Prim.Native.Nat.{ℕ, suc, _+_, _*_, _/_, _≤_, _<_}
 use native.Mathlib.Nat.{le-trans, le-of-eq, le-of-lt, mul-le-mul-right, add-mul, div-mul-le-self, lt-div-mul-add, le-div-iff-mul-le, suc-mul, add-le-add}
 use lib.Ieee.Nearest.{div-mono}

@@ -1,4 +1,4 @@
--- Brackets that lie apart: by what a constant factor leaves of the gap between two, and the gap between the cells of two codes.
+-- The gap between two brackets: no float is in both, a constant factor leaves a part of it, and the cells of two codes have one.
 use mathlib.Core.Path.{_≡_, sym, ap, subst}
 use mathlib.Core.Logic.{_⊎_, inl, inr}
 use Prim.Native.Nat.{ℕ, suc, _+_, _*_, _/_, _^_, _≤_, _<_}

@@ -1,9 +1,11 @@
+-- Laws of binary64 numbers that hold for any constants.
 -- definitions
 pub mod Decimal
 pub mod Raw
 pub mod Within
 -- tests that compute
 pub mod Same
+pub mod AllBits
 pub mod Table
 -- bounds through one rounding
 pub mod Sign

@@ -28,10 +28,10 @@ bracket-mul f s s' (fin t m e) (fin t' n d) q p c q' p' c' l h u C C' U i j r r'
     k))
 
 quotient-low : (q c' Y x X y c p' : ℕ) → q * x ≤ X * c → Y * c' ≤ p' * y → q * c' * (Y * x) ≤ X * y * (c * p')
-quotient-low q c' Y x X y c p' a b = simp (mul-assoc, mul-comm, mul-left-comm) (simp (mul-assoc, mul-comm, mul-left-comm) at (mul-le-mul a b))
+quotient-low q c' Y x X y c p' a b = simp mul-assoc (simp (mul-assoc, mul-comm, mul-left-comm) at (mul-le-mul a b))
 
 quotient-high : (X y c q' p c' Y x : ℕ) → X * c ≤ p * x → q' * y ≤ Y * c' → X * y * (c * q') ≤ p * c' * (Y * x)
-quotient-high X y c q' p c' Y x a b = simp (mul-assoc, mul-comm, mul-left-comm) (simp (mul-assoc, mul-comm, mul-left-comm) at (mul-le-mul a b))
+quotient-high X y c q' p c' Y x a b = simp mul-assoc (simp (mul-assoc, mul-comm, mul-left-comm) at (mul-le-mul a b))
 
 -- [q, p] / c over [q', p'] / c' lies in [l, h] / u
 pub bracket-div : (f : Format) (s s' : Bool) (x y : Float) (q p c q' p' c' l h u : ℕ) → 0 < c → 0 < c' → 0 < u → 0 < q' → 0 < p' → Bracket s x q p c → Bracket s' y q' p' c' → Holds f l u → Holds f h u

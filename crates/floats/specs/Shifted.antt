@@ -1,6 +1,6 @@
 -- (k - 2 ^ h) / 2 ^ h + d, rounded, keeps the cell of the grid of 2 ^ -t in which the exact sum lies.
 use mathlib.Core.Path.{_≡_, refl, sym, ap, _∙_}
-use mathlib.Core.Logic.{_⊎_, inl, inr}
+use mathlib.Core.Logic.{inl, inr}
 use Prim.Native.Nat.{ℕ, suc, _+_, _-_, _*_, _/_, _^_, _≤_, _<_}
 use native.Mathlib.Nat.{le-refl, le-trans, le-of-eq, le-of-lt, lt-of-le-of-lt, mul-assoc, mul-comm, mul-le-mul-right, mul-pos, add-mul, div-lt-iff-lt-mul, suc-mul, le-suc, sub-add-cancel}
 use native.Mathlib.Omega.{arith}

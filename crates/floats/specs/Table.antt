@@ -7,7 +7,7 @@ use Prim.Native.Nat.{ℕ, zero, suc, _+_, _-_, _≤_, _<_}
 use native.Mathlib.Nat.{add-zero, zero-add, add-suc, suc-add, le-of-suc-le-suc, not-suc-le-zero, eq-or-lt-of-le, sub-add-cancel}
 use native.Mathlib.Omega.{arith}
 use lib.Dec.{T, eqb, eqb→eq}
-use lib.ListN.{length, getD}
+use lib.ListN.{length, getD, length-map, List·getD-map}
 use lib.Ieee.Fits.{and-l, and-r}
 
 -- the test f passes at each entry of the list and its place, counted from i
@@ -42,11 +42,12 @@ all-from f lo n t k g h = subst (λ (m : ℕ). T (f m)) (sub-add-cancel g) (all-
 pub one-to-one : {A : Type 0} (f : ℕ → A) (back : A → ℕ) (n : ℕ) → T (all (λ k. eqb (back (f k)) k) n) → (k k' : ℕ) → k < n → k' < n → f k ≡ f k' → k ≡ k'
 one-to-one f back n t k k' h h' e = sym (eqb→eq (back (f k)) k (all-at (λ k. eqb (back (f k)) k) n t k h)) ∙ ap back e ∙ eqb→eq (back (f k')) k' (all-at (λ k. eqb (back (f k)) k) n t k' h')
 
+-- an entry of the list does not depend on the default
+pub getD-default : {A : Type 0} (l : List A) (i : ℕ) (a b : A) → i < length l → getD l i a ≡ getD l i b
+getD-default [] i a b h = absurd (not-suc-le-zero h)
+getD-default (x ∷ xs) zero a b h = refl
+getD-default (x ∷ xs) (suc i) a b h = getD-default xs i a b (le-of-suc-le-suc h)
+
 -- a list of what f makes of each entry of another list
-pub made : {A B : Type 0} (f : B → A) (xs : List B) (b : B) (l : List A) (a : A) → map f xs ≡ l → (i : ℕ) → i < length xs → getD l i a ≡ f (getD xs i b)
-made {A} {B} f xs b l a e i h = ap (λ l. getD l i a) (sym e) ∙ go xs i h
-  where
-    go : (xs : List B) (i : ℕ) → i < length xs → getD (map f xs) i a ≡ f (getD xs i b)
-    go [] i h = absurd (not-suc-le-zero h)
-    go (x ∷ xs) zero h = refl
-    go (x ∷ xs) (suc i) h = go xs i (le-of-suc-le-suc h)
+pub made : {A B : Type 0} (f : B → A) (xs : List B) (b : B) (l : List A) (a : A) → l ≡ map f xs → (i : ℕ) → i < length xs → getD l i a ≡ f (getD xs i b)
+made f xs b l a e i h = ap (λ l. getD l i a) e ∙ getD-default (map f xs) i a (f b) (subst (λ (n : ℕ). i < n) (sym (length-map xs f)) h) ∙ List·getD-map f xs i b

@@ -1,6 +1,6 @@
 -- A float that is finite and bounded in size, and a sum in order. Definitions only.
 use mathlib.Core.List.{List, [], _∷_}
-use Prim.Native.Nat.{ℕ, _*_, _^_, _≤_}
+use Prim.Native.Nat.{ℕ, _*_, _≤_}
 use lib.Ieee.{Float, nan, inf, fin, binary64, up, down, add}
 
 -- x is finite, and p / c at most in size, whatever its sign: |x| is m * up e / down e

@@ -1,5 +1,5 @@
 -- What the exported functions answer: the value of the definition below them, and +0 or 0 where an argument is outside its range. Definitions only.
-use mathlib.Core.Bool.{Bool, false, _&&_, cond}
+use mathlib.Core.Bool.{false, _&&_, cond}
 use mathlib.Core.List.{List}
 use Prim.Native.Nat.{ℕ, _+_, _*_, _^_}
 use lib.IntN.{pos}
@@ -16,7 +16,7 @@ plusZero = fin false 0 (pos 0)
 abbrev pub scalefactorLeaf : ℕ → Float
 scalefactorLeaf index = cond (ltb index 63) (scalefactorOf index) plusZero
 
--- The columns of a class are those of `bitalloc`, whose row for a number of steps that is no class's has 0 in each. A flag is 1 or 0.
+-- The columns of a class are those of `bitalloc`: a number of steps that is no class's has 0 in each. A flag is 1 or 0.
 abbrev pub groupingLeaf : ℕ → ℕ
 groupingLeaf steps = cond (grouped steps) 1 0
 
@@ -28,7 +28,7 @@ abbrev pub packed : List ℕ → ℕ
 packed digits = getD digits 0 0 + 256 * getD digits 1 0 + 65536 * getD digits 2 0
 
 abbrev pub degroupLeaf : ℕ → ℕ → ℕ
-degroupLeaf steps combined = cond (isClass steps && grouped steps && ltb combined (2 ^ bitsPerCodeword steps)) (packed (degrouped steps combined)) 0
+degroupLeaf steps combined = cond (grouped steps && ltb combined (2 ^ bitsPerCodeword steps)) (packed (degrouped steps combined)) 0
 
 abbrev pub lfeLeaf : ℕ → ℕ → ℕ → Float
 lfeLeaf allocation index code =

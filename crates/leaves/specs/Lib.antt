@@ -1,1 +1,2 @@
+-- The definitions of the exported functions.
 pub mod Leaves

@@ -41,40 +41,35 @@ fn class_or_zero(nb_steps: u32) -> QuantClass
 pub extern "C" fn mc_leaf_class_bits_per_sample(nb_steps: u32) -> u32
     ensures { λ r. ⌜ r ≡ bitsPerSample «nb_steps» ⌝ }
 {
-    let class = class_or_zero(nb_steps);
-    class.bits_per_sample
+    class_or_zero(nb_steps).bits_per_sample
 }
 
 #[no_mangle]
 pub extern "C" fn mc_leaf_class_bits_per_codeword(nb_steps: u32) -> u32
     ensures { λ r. ⌜ r ≡ bitsPerCodeword «nb_steps» ⌝ }
 {
-    let class = class_or_zero(nb_steps);
-    class.bits_per_codeword
+    class_or_zero(nb_steps).bits_per_codeword
 }
 
 #[no_mangle]
 pub extern "C" fn mc_leaf_class_grouping(nb_steps: u32) -> u32
     ensures { λ r. ⌜ r ≡ groupingLeaf «nb_steps» ⌝ }
 {
-    let class = class_or_zero(nb_steps);
-    class.grouping as u32
+    class_or_zero(nb_steps).grouping as u32
 }
 
 #[no_mangle]
 pub extern "C" fn mc_leaf_class_c(nb_steps: u32) -> f64
     ensures { λ r. ⌜ r ≡ cOf «nb_steps» ⌝ }
 {
-    let class = class_or_zero(nb_steps);
-    class.c
+    class_or_zero(nb_steps).c
 }
 
 #[no_mangle]
 pub extern "C" fn mc_leaf_class_d(nb_steps: u32) -> f64
     ensures { λ r. ⌜ r ≡ dOf «nb_steps» ⌝ }
 {
-    let class = class_or_zero(nb_steps);
-    class.d
+    class_or_zero(nb_steps).d
 }
 
 // Whether a code is below 2^n.
@@ -115,11 +110,7 @@ fn degroup_packed(nb_steps: u32, combined: u32) -> u32
 pub extern "C" fn mc_leaf_degroup(nb_steps: u32, combined: u32) -> u32
     ensures { λ r. ⌜ r ≡ degroupLeaf «nb_steps» combined ⌝ }
 {
-    let index = bitalloc::class_index(nb_steps);
-    if bitalloc::CLASS_COUNT <= index {
-        return 0;
-    }
-    let class = bitalloc::class_at(index);
+    let class = class_or_zero(nb_steps);
     let grouping = class.grouping;
     if !grouping {
         return 0;

@@ -3,7 +3,7 @@ use mathlib.Core.Path.{_≡_, ap}
 use Prim.Native.Nat.{ℕ, _-_, _^_, _≤_, _<_}
 use lib.IntN.{ℤ}
 use lib.Ieee.{Float, binary64, add, mul, div, ofInt}
-use Rattle.floats.specs.Raw.{centred, shifted, raw}
+use Rattle.floats.specs.Raw.{centred, raw}
 use Rattle.bitalloc.specs.declared.QuantClass.{QuantClass}
 use Rattle.requant.specs.Requant.{whole, fraction, requantized, lfeC, lfeD, lfeOf}
 use Rattle.requant.specs.Flip.{inverted-minus}

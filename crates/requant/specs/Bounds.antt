@@ -1,8 +1,8 @@
 -- Values are finite and bounded: raw values and coefficients by 4, scalefactors by 2, what is scaled by 8, LFE samples by 3.
-use mathlib.Core.Path.{_≡_, sym, subst}
-use mathlib.Core.Bool.{Bool, true, false}
-use Prim.Native.Nat.{ℕ, suc, _+_, _-_, _*_, _/_, _^_, _≤_, _<_, zero-le, suc-le-suc}
-use native.Mathlib.Nat.{le-trans, le-of-eq, mul-le-mul-right, mul-pos, mul-comm}
+use mathlib.Core.Path.{sym, subst}
+use mathlib.Core.Bool.{Bool, false}
+use Prim.Native.Nat.{ℕ, suc, _+_, _-_, _*_, _^_, _≤_, _<_, zero-le, suc-le-suc}
+use native.Mathlib.Nat.{le-trans, mul-le-mul-right, mul-pos}
 use native.Mathlib.Omega.{arith}
 use lib.Dec.{T, leb, leb→le, lit<, lit≤}
 use lib.Pow.{pow-pos}
@@ -17,7 +17,8 @@ use Rattle.floats.specs.OneToOne.{Separates, raw-low, raw-high, raw-high-le, ra
 use Rattle.floats.specs.Table.{all, all-at}
 use Rattle.tables.specs.Scalefactor.{scalefactorOf}
 use Rattle.bitalloc.specs.Classes.{classIndex, isClass, classOf, bitsPerSample}
-use Rattle.bitalloc.specs.Rules.{class-index-lt, steps-rules}
+use Rattle.bitalloc.specs.Places.{class-index-lt}
+use Rattle.bitalloc.specs.Rules.{steps-rules}
 use Rattle.requant.specs.Requant.{rawOf, lfeC, lfeD, lfeOf, lfeSampleOf, coefficientOf}
 use Rattle.requant.specs.Flip.{in-halves}
 use Rattle.requant.specs.AsRaw.{requantized-raw, lfe-raw}

@@ -1,10 +1,10 @@
 -- A code of n bits with its first bit inverted, read in two's complement, is the code less 2 ^ (n - 1).
-use mathlib.Core.Path.{_≡_, refl, sym, ap, ap₂, _∙_, subst}
+use mathlib.Core.Path.{_≡_, sym, ap, ap₂, _∙_, subst}
 use Prim.Native.Nat.{ℕ, suc, _+_, _-_, _*_, _^_, _≤_, _<_}
 use native.Mathlib.Nat.{zero-mul, one-mul, add-zero, zero-add, two-pow-succ}
 use native.Mathlib.Omega.{arith}
 use mathlib.Core.Bool.{Bool, true, false, not, cond}
-use lib.IntN.{ℤ, pos, negsuc}
+use lib.IntN.{pos, negsuc}
 use lib.Dec.{T, leb, leb→le, nleb→lt}
 use lib.Pow.{pow-pos}
 use lib.Bits.{bitXor, xor-block, xor-zero-r}

@@ -1,5 +1,5 @@
 -- Values decide codes, in all 64 bits of an f64: one theorem for any of the 17 classes, any LFE allocation and scalefactor, any coefficient byte, any group.
-use mathlib.Core.Path.{_≡_, sym, ap, _∙_, subst}
+use mathlib.Core.Path.{_≡_, sym, ap, _∙_}
 use mathlib.Core.Bool.{cond}
 use mathlib.Core.List.{List}
 use Prim.Native.Nat.{ℕ, zero, suc, _+_, _-_, _*_, _/_, _%_, _^_, _≤_, _<_}
@@ -13,7 +13,8 @@ use Rattle.floats.specs.Raw.{raw}
 use Rattle.floats.specs.OneToOne as law
 use Rattle.tables.specs.Scalefactor.{scalefactorOf}
 use Rattle.bitalloc.specs.Classes.{classIndex, isClass, classOf, bitsPerSample}
-use Rattle.bitalloc.specs.Rules.{class-index-lt, steps-rules}
+use Rattle.bitalloc.specs.Places.{class-index-lt}
+use Rattle.bitalloc.specs.Rules.{steps-rules}
 use Rattle.requant.specs.Requant.{rawOf, degrouped, lfeC, lfeD, lfeSampleOf, coefficientOf}
 use Rattle.requant.specs.Flip.{in-halves}
 use Rattle.requant.specs.AsRaw.{requantized-raw, lfe-raw}

@@ -1,4 +1,4 @@
--- From codes to values. Definitions only.
+-- The values of codes: a class's samples, grouped codes, LFE samples, prediction coefficients. Definitions only.
 -- Each operation on floats rounds once to an f64, in the order of the Rust, as document 01 asks.
 use mathlib.Core.Bool.{false, cond}
 use mathlib.Core.List.{List, [], _∷_}

@@ -1,12 +1,12 @@
 -- The scalefactors of Layers I and II: ISO/IEC 11172-3, Table B.1. Definitions only.
--- Document 01 has the decimals of the Rust decide, which are the table's own.
+-- Document 01 takes the decimals of the Rust, which are the table's own.
 use Prim.Native.Nat.{ℕ}
-use mathlib.Core.List.{List, [], _∷_}
+use mathlib.Core.List.{List, [], _∷_, map}
 use lib.ListN.{getD}
 use lib.Ieee.{Float, round}
 use Rattle.floats.specs.Decimal.{decimal}
 
--- each times 10 ^ 14, three to a line: from one line to the next the scalefactor is halved
+-- each times 10 ^ 14, three to a line: from one line to the next they are halved, up to the last digit
 unfoldable pub numerators : List ℕ
 numerators =
     200000000000000 ∷ 158740105196820 ∷ 125992104989487 ∷
@@ -31,7 +31,12 @@ numerators =
     381469727 ∷ 302772723 ∷ 240310869 ∷
     190734863 ∷ 151386361 ∷ 120155435 ∷ []
 
--- the f64 nearest to the table's decimal at an index, of which there are 63
+-- the table: the f64 nearest to each decimal
+unfoldable pub scalefactors : List Float
+unfolding numerators round
+scalefactors = map (decimal 14) numerators
+
+-- its entry at an index below 63
 unfoldable pub scalefactorOf : ℕ → Float
 unfolding numerators round
 scalefactorOf index = decimal 14 (getD numerators index 0)

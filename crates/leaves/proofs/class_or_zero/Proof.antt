@@ -1,5 +1,5 @@
 -- `leaves::class_or_zero` meets its contract: each arm answers what `lookupOf` says of the class.
-use mathlib.Core.Path.{_≡_, refl, sym}
+use mathlib.Core.Path.{_≡_, sym}
 use mathlib.Core.Bool.{Bool, true, false, not, cond}
 use Prim.Native.Nat.{ℕ}
 use native.Mathlib.Omega.{arith}
@@ -10,7 +10,7 @@ use Rattle.bitalloc.specs.declared.QuantClass.{QuantClass}
 use Rattle.bitalloc.specs.declared.ClassLookup.{ClassLookup}
 use Rattle.bitalloc.specs.declared.ClassLookup.the-variants.{Found, Unknown}
 use Rattle.bitalloc.specs.Classes.{row, isClass, classOf, lookupOf}
-use Rattle.bitalloc.specs.Rules.{class-none}
+use Rattle.bitalloc.specs.Places.{class-none}
 use Rattle.leaves.proofs.class_or_zero.Statement.{statement}
 use Rattle.leaves.proofs.class_or_zero.Tie as tie
 

@@ -1,12 +1,13 @@
 -- `leaves::degroup_packed` meets its contract: each digit is below nine, so the number fits.
 use mathlib.Core.Path.{_≡_, ap, subst, sym}
 use mathlib.Core.List.{List}
-use Prim.Native.Nat.{ℕ, _+_, _*_, _%_, _/_, _<_, _≤_}
-use native.Mathlib.Nat.{mod-lt, lt-of-lt-of-le}
+use Prim.Native.Nat.{ℕ, _<_, _≤_}
+use native.Mathlib.Nat.{lt-of-lt-of-le}
 use native.Mathlib.Omega.{arith}
 use lib.ListN.{getD}
 use borrow.Author.Needs.{needs}
 use Rattle.requant.specs.Requant.{degrouped}
+use Rattle.requant.specs.Digits.{digit-lt}
 use Rattle.leaves.specs.Leaves.{packed}
 use Rattle.leaves.proofs.degroup_packed.Statement.{statement}
 use Rattle.leaves.proofs.degroup_packed.Tie as tie
@@ -17,12 +18,11 @@ record Small (digits : List ℕ) : Type 0 where
   third : getD digits 2 0 < 9
 
 small : (n c : ℕ) (digits : List ℕ) → 0 < n → n ≤ 9 → digits ≡ degrouped n c → Small digits
-unfolding degrouped
 small n c digits N N' e =
     subst Small (sym e) (record {
-      first = lt-of-lt-of-le (mod-lt c N) N';
-      second = lt-of-lt-of-le (mod-lt (c / n) N) N';
-      third = lt-of-lt-of-le (mod-lt (c / n / n) N) N';
+      first = lt-of-lt-of-le (digit-lt n c 0 N) N';
+      second = lt-of-lt-of-le (digit-lt n c 1 N) N';
+      third = lt-of-lt-of-le (digit-lt n c 2 N) N';
     })
 
 degroup-requires : tie.Need-degroup-requires

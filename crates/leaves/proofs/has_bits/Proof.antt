@@ -1,6 +1,5 @@
 -- `leaves::has_bits` meets its contract: 1 << n is 2 ^ n.
 use mathlib.Core.Path.{ap}
-use Prim.Native.Nat.{ℕ}
 use native.Mathlib.Omega.{arith}
 use lib.Dec.{ltb}
 use borrow.Author.Needs.{needs}

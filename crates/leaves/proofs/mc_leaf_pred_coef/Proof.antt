@@ -12,11 +12,11 @@ pred-coef-requires : tie.Need-pred-coef-requires
 pred-coef-requires c κs = search needs
 
 returns : tie.Need-returns
-returns c = simp (lt-ltb _ _ (c .before .if1 .taken)) (c .pred-coef .ensures)
+returns c = simp (lt-ltb (c .before .before .args .byte) 256 (search needs)) (c .pred-coef .ensures)
 
 returns-2 : tie.Need-returns-2
 unfolding ofBits
-returns-2 c = simp (le-ltb _ _ (c .if1 .left))
+returns-2 c = simp (le-ltb (c .before .args .byte) 256 (search needs))
 
 pub mc-leaf-pred-coef-spec : {M : Type 1} → statement M
 mc-leaf-pred-coef-spec = tie.close (tie.spec cast-pred-coef pred-coef-requires returns returns-2)

@@ -1,9 +1,8 @@
 -- `leaves::mc_leaf_requantize_lfe` meets its contract: each return answers what `lfeLeaf` picks by the tests that led there.
 use mathlib.Core.Path.{_≡_, sym, _∙_}
-use mathlib.Core.Bool.{Bool, true, false, _&&_, cond}
+use mathlib.Core.Bool.{Bool, true, false}
 use Prim.Native.Nat.{ℕ, _+_, _^_, _≤_, _<_}
-use native.Mathlib.Omega.{arith}
-use lib.Dec.{leb, ltb}
+use lib.Dec.{ltb}
 use lib.Ieee.{Float, ofBits}
 use borrow.Author.Needs.{needs}
 use borrow.Author.Tests.{lt-ltb, le-ltb, lt-leb, le-leb, ltb-true}
@@ -24,15 +23,17 @@ module _ (allocation index code : ℕ) (b : Bool) (A : 1 ≤ allocation) (A' : a
 
 returns : tie.Need-returns
 unfolding ofBits
-returns c = simp (lt-leb _ _ (c .if1 .taken))
+returns c = simp (lt-leb 1 (c .before .args .allocation) (search needs))
 
 returns-2 : tie.Need-returns-2
 unfolding ofBits
-returns-2 c = simp (le-leb _ _ (c .before .if1 .left), lt-leb _ _ (c .if2 .taken))
+returns-2 c = let a = c .before .before .args .allocation in simp (le-leb 1 a (search needs), lt-leb a 15 (search needs))
 
 returns-3 : tie.Need-returns-3
 unfolding ofBits
-returns-3 c = simp (le-leb _ _ (c .before .before .if1 .left), le-leb _ _ (c .before .if2 .left), le-ltb _ _ (c .if3 .taken))
+returns-3 c =
+    let x = c .before .before .before .args in
+    simp (le-leb 1 (x .allocation) (search needs), le-leb (x .allocation) 15 (search needs), le-ltb (x .scalefactor) 63 (search needs))
 
 add-has-bits : tie.Need-add-has-bits
 add-has-bits c = search needs

@@ -9,11 +9,11 @@ scalefactor-requires : tie.Need-scalefactor-requires
 scalefactor-requires c κs = search needs
 
 returns : tie.Need-returns
-returns c = simp (lt-ltb _ _ (c .before .if1 .taken)) (c .scalefactor .ensures)
+returns c = simp (lt-ltb (c .before .before .args .index) 63 (search needs)) (c .scalefactor .ensures)
 
 returns-2 : tie.Need-returns-2
 unfolding ofBits
-returns-2 c = simp (le-ltb _ _ (c .if1 .left))
+returns-2 c = simp (le-ltb (c .before .args .index) 63 (search needs))
 
 pub mc-leaf-scalefactor-spec : {M : Type 1} → statement M
 mc-leaf-scalefactor-spec = tie.close (tie.spec scalefactor-requires returns returns-2)

@@ -1,0 +1,4 @@
+pub mod Scale
+pub mod Predict
+pub mod Dematrix
+pub mod Output

@@ -1,0 +1,3 @@
+pub mod Frame
+pub mod Boundary
+pub mod BoundaryProof
