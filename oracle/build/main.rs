@@ -46,7 +46,10 @@ fn main() {
         println!("cargo::rerun-if-changed={file}");
     }
     if env::var_os("CARGO_FEATURE_LEAVES").is_some() {
-        link_leaves();
+        link("leaves", "leaves");
+    }
+    if env::var_os("CARGO_FEATURE_PARTS").is_some() {
+        link("heads", "parts");
     }
 }
 
@@ -193,17 +196,18 @@ fn lent_allocation(part: Source) -> Source {
     )
 }
 
-/// Links the proved leaves into the one program that compares them.
-fn link_leaves() {
-    let library = folder_of("KOFTABASIN_STATICLIB", DEFAULT_STATICLIB).join("libleaves.a");
+/// Links a proved crate into the one program that compares it.
+fn link(program: &str, name: &str) {
+    let folder = folder_of("KOFTABASIN_STATICLIB", DEFAULT_STATICLIB);
+    let library = folder.join(format!("lib{name}.a"));
     println!("cargo::rerun-if-changed={}", library.display());
     let Ok(path) = library.canonicalize() else {
         fail(&format!(
             "the static library {} is missing.\n\
-             `rt staticlib leaves` at the repository's root makes it; name another folder in the\n\
+             `rt staticlib {name}` at the repository's root makes it; name another folder in the\n\
              variable KOFTABASIN_STATICLIB (from the folder of oracle/Cargo.toml).",
             library.display()
         ))
     };
-    println!("cargo::rustc-link-arg-bin=leaves={}", path.display());
+    println!("cargo::rustc-link-arg-bin={program}={}", path.display());
 }

@@ -23,28 +23,31 @@ impl<'a> BitReader<'a> {
     }
 
     /// The number of bits before the next one.
+    #[inline]
     pub fn bit_position(&self) -> u64 {
         self.position
     }
 
-    /// Reads `n` bits, 0 to 32.
+    /// Reads `n` bits, 0 to 32, out of the eight bytes that begin with the first of them.
     #[inline]
     pub fn read_u32(&mut self, n: u32) -> Result<u32, EndOfData> {
         let start = self.position;
         self.skip(n)?;
-        if n == 0 {
-            return Ok(0);
-        }
-        let rest = &self.data[(start / 8) as usize..];
-        let window = match rest.first_chunk::<8>() {
-            Some(bytes) => u64::from_be_bytes(*bytes),
-            None => {
-                let mut bytes = [0; 8];
-                bytes[..rest.len()].copy_from_slice(rest);
-                u64::from_be_bytes(bytes)
-            }
+        let byte = (start / 8) as usize;
+        let window = match self.data.get(byte..byte + 8) {
+            Some(bytes) => u64::from_be_bytes(bytes.try_into().expect("eight bytes")),
+            None => self.last_window(byte),
         };
-        Ok(((window << (start % 8)) >> (64 - n)) as u32)
+        Ok((window << (start % 8) >> 1 >> (63 - n)) as u32)
+    }
+
+    /// The last bytes, fewer than eight, with zeros after them.
+    #[cold]
+    fn last_window(&self, byte: usize) -> u64 {
+        let rest = &self.data[byte..];
+        let mut bytes = [0; 8];
+        bytes[..rest.len()].copy_from_slice(rest);
+        u64::from_be_bytes(bytes)
     }
 
     #[inline]

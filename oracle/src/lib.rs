@@ -8,10 +8,14 @@ extern crate self as oxideav_core;
 include!(concat!(env!("OUT_DIR"), "/published.rs"));
 
 pub mod bits;
+pub mod flat;
 pub mod generator;
 pub mod input;
 pub mod leaf;
+#[cfg(feature = "frame")]
+pub mod library;
 pub mod output;
+pub mod replay;
 pub mod scope;
 
 pub use input::FrameInput;

@@ -85,29 +85,13 @@ fn scalefactor_62_passes_and_63_is_refused() {
     }
 }
 
-/// 3/2 with every field at its longest.
-fn longest() -> Plan {
-    let mut plan = Plan::plain(2, 1, 2);
-    plan.head.n_ad_bytes = Some(255);
-    plan.head.lfe = true;
-    plan.head.one_tc = false;
-    plan.head.prediction_on = true;
-    plan.head.predicted = [true; 8];
-    plan.head.counts = [[3; 6]; 8];
-    plan.payload.lfe_allocation = 15;
-    for steps in &mut plan.payload.steps {
-        steps[..30].fill(65535);
-    }
-    plan
-}
-
 #[test]
 fn longest_head_and_payload() {
-    let mut plan = longest();
+    let mut plan = Plan::longest();
     plan.head.crosstalk_on = true;
     for (plan, part, bits) in [
         (&plan, Part::Head, 232),
-        (&longest(), Part::Payload, 55_134),
+        (&Plan::longest(), Part::Payload, 55_134),
     ] {
         let mut input = plan.input();
         let frame = judge(&input, &mut State::fresh()).unwrap();

@@ -68,8 +68,7 @@ pub fn wrong_loan(random: &mut Random, input: &mut FrameInput, state: &mut State
         2 => state.count = random.pick(&[6, 7, u32::MAX]),
         3 => {
             let channel = random.below(input.base_channels as u32) as usize;
-            let subband = random.below(32) as usize;
-            input.base_nb_steps[channel][subband] = unknown_steps(random);
+            input.base_nb_steps[channel][place(random, 32)] = unknown_steps(random);
         }
         4 => {
             let (bytes, bits) = string(input, part);
@@ -103,12 +102,18 @@ pub fn wild_value(random: &mut Random, input: &mut FrameInput, state: &mut State
     ];
     let value = random.pick(&wild);
     let channel = random.below(input.base_channels as u32) as usize;
-    let (slot, subband) = (random.below(36) as usize, random.below(32) as usize);
+    let (slot, subband) = (place(random, 36), place(random, 32));
     match random.below(3) {
         0 => input.base_raw[channel][slot][subband] = value,
         1 => input.base_scaled[channel][slot][subband] = value,
-        _ => state.history[random.below(576) as usize] = value,
+        _ => state.history[place(random, 576)] = value,
     }
+}
+
+/// A place below `n`; half of the time the first or the last.
+fn place(random: &mut Random, n: u32) -> usize {
+    let any = random.below(n);
+    random.pick(&[0, n - 1, any, any]) as usize
 }
 
 /// An allocation of refusal 8, for the frame of a plan: a step count that no class has, one at a place
@@ -118,7 +123,7 @@ pub fn wrong_allocation(random: &mut Random, plan: &Plan, input: &mut FrameInput
         input.lfe_allocation = 1 + random.below(15);
         return;
     }
-    let (channel, subband) = (random.below(3) as usize, random.below(32) as usize);
+    let (channel, subband) = (random.below(3) as usize, place(random, 32));
     let transmitted = plan.source(channel, subband) == Source::Transmitted;
     input.nb_steps[channel][subband] = match transmitted || random.chance(1, 4) {
         true => unknown_steps(random),

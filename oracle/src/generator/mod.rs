@@ -10,8 +10,10 @@ pub mod layout;
 pub mod payload;
 pub mod plan;
 pub mod random;
+pub mod shapes;
 pub mod writer;
 
 pub use plan::{Plan, Source};
 pub use random::Random;
+pub use shapes::HeadShape;
 pub use writer::{Field, Kind, Written};

@@ -36,24 +36,30 @@ impl Plan {
 
     /// An accepted frame. Consecutive seeds go through the shapes in turn; the rest is random.
     pub fn random(seed: u64) -> Plan {
-        let mut rest = seed % Plan::SHAPES;
+        Plan::of_shape(seed % Plan::SHAPES, seed)
+    }
+
+    /// A frame of zeros with this shape, one of [`Plan::SHAPES`].
+    pub fn plain_of_shape(shape: u64) -> Plan {
+        let mut rest = shape;
         let mut digit = |base: u64| {
             let digit = rest % base;
             rest /= base;
             digit as u32
         };
         let base_channels = 2 - digit(2) as usize;
-        let mut head = Head::plain(digit(4), digit(4));
-        head.procedure = digit(4);
-        let sample_rate = [44_100, 48_000, 32_000][digit(3) as usize];
+        let mut plan = Plan::plain(base_channels, digit(4), digit(4));
+        plan.head.procedure = digit(4);
+        plan.sample_rate = [44_100, 48_000, 32_000][digit(3) as usize];
+        plan
+    }
+
+    /// An accepted frame of this shape; the rest is random.
+    pub fn of_shape(shape: u64, seed: u64) -> Plan {
         let random = &mut Random::new(seed);
-        let mut plan = Plan {
-            base_channels,
-            sample_rate,
-            head: Head::random(random, base_channels, head),
-            payload: Payload::empty(),
-            base: Base::random(random, base_channels),
-        };
+        let mut plan = Plan::plain_of_shape(shape);
+        plan.head = Head::random(random, plan.base_channels, plan.head);
+        plan.base = Base::random(random, plan.base_channels);
         plan.payload = Payload::random(random, plan.head.lfe, |channel, subband| {
             plan.source(channel, subband) == Source::Transmitted
         });
@@ -69,6 +75,22 @@ impl Plan {
             payload: Payload::empty(),
             base: Base::silent(base_channels),
         }
+    }
+
+    /// 3/2 with every field of the payload at its longest: 55,134 bits.
+    pub fn longest() -> Plan {
+        let mut plan = Plan::plain(2, 1, 2);
+        plan.head.n_ad_bytes = Some(255);
+        plan.head.lfe = true;
+        plan.head.one_tc = false;
+        plan.head.prediction_on = true;
+        plan.head.predicted = [true; 8];
+        plan.head.counts = [[3; 6]; 8];
+        plan.payload.lfe_allocation = 15;
+        for steps in &mut plan.payload.steps {
+            steps[..30].fill(65535);
+        }
+        plan
     }
 
     pub fn layout(&self) -> Layout {
@@ -125,18 +147,19 @@ impl Plan {
 
     pub fn payload_written(&self) -> Written {
         let mut out = Written::default();
-        for (channel, subband) in self.places() {
-            if self.steps(channel, subband) != 0 {
-                out.field(Kind::Scfsi, 2, self.payload.scfsi[channel][subband]);
-            }
+        let mut places: Vec<_> = self.places().collect();
+        places.retain(|&(channel, subband)| self.steps(channel, subband) != 0);
+        for &(channel, subband) in &places {
+            out.field(Kind::Scfsi, 2, self.payload.scfsi[channel][subband]);
         }
         self.write_predictors(&mut out);
         if self.payload.lfe_allocation != 0 {
             out.field(Kind::LfeScalefactor, 6, self.payload.lfe_scalefactor);
         }
-        self.write_scalefactors(&mut out);
+        self.write_scalefactors(&mut out, &places);
+        places.retain(|&place| self.source(place.0, place.1) == Source::Transmitted);
         for granule in 0..12 {
-            self.write_granule(&mut out, granule);
+            self.write_granule(&mut out, &places, granule);
         }
         out
     }
@@ -156,11 +179,9 @@ impl Plan {
         }
     }
 
-    fn write_scalefactors(&self, out: &mut Written) {
-        for (channel, subband) in self.places() {
-            if self.steps(channel, subband) == 0 {
-                continue;
-            }
+    /// Scalefactors of the places that have a step count.
+    fn write_scalefactors(&self, out: &mut Written, places: &[(usize, usize)]) {
+        for &(channel, subband) in places {
             let by_part = self.payload.scalefactors[channel][subband];
             for part in parts_written(self.payload.scfsi[channel][subband]) {
                 out.field(Kind::Scalefactor, 6, by_part[*part]);
@@ -168,16 +189,14 @@ impl Plan {
         }
     }
 
-    fn write_granule(&self, out: &mut Written, granule: usize) {
+    /// Samples of the places whose step count is transmitted.
+    fn write_granule(&self, out: &mut Written, places: &[(usize, usize)], granule: usize) {
         if self.payload.lfe_allocation != 0 {
             let width = self.payload.lfe_allocation + 1;
             out.field(Kind::LfeSample, width, self.payload.lfe_codes[granule]);
         }
-        for (channel, subband) in self.places() {
-            let steps = self.steps(channel, subband);
-            if steps == 0 || self.source(channel, subband) != Source::Transmitted {
-                continue;
-            }
+        for &(channel, subband) in places {
+            let steps = self.payload.steps[channel][subband];
             let codes = self.payload.codes[granule][channel][subband];
             if grouped(steps) {
                 out.field(Kind::GroupCode, code_width(steps), codes[0]);
@@ -191,11 +210,15 @@ impl Plan {
 
     /// The frame as it is lent.
     pub fn input(&self) -> FrameInput {
-        let (head, payload) = (self.head_written(), self.payload_written());
+        self.lent(&self.head_written(), &self.payload_written())
+    }
+
+    /// The frame with these strings.
+    pub fn lent(&self, head: &Written, payload: &Written) -> FrameInput {
         FrameInput {
-            head: head.bytes,
+            head: head.bytes.clone(),
             head_bits: head.bits,
-            payload: payload.bytes,
+            payload: payload.bytes.clone(),
             payload_bits: payload.bits,
             sample_rate: self.sample_rate,
             base_channels: self.base_channels,

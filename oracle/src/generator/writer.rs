@@ -69,15 +69,17 @@ impl Written {
     }
 }
 
-/// Writes a number over the bits from `at` on.
+/// Writes a number over the bits from `at` on, byte by byte.
 pub fn put(bytes: &mut [u8], at: u64, width: u32, value: u32) {
-    for k in 0..width {
-        let place = at + u64::from(k);
-        let mask = 0x80 >> (place % 8);
-        let byte = &mut bytes[(place / 8) as usize];
-        match (value >> (width - 1 - k)) & 1 {
-            1 => *byte |= mask,
-            _ => *byte &= !mask,
-        }
+    let (mut at, mut left) = (at, width);
+    while left > 0 {
+        let free = 8 - (at % 8) as u32;
+        let n = left.min(free);
+        left -= n;
+        let mask = ((1u32 << n) - 1) << (free - n);
+        let part = (value >> left) << (free - n);
+        let byte = &mut bytes[(at / 8) as usize];
+        *byte = (*byte & !mask as u8) | (part & mask) as u8;
+        at += u64::from(n);
     }
 }

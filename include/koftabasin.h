@@ -1,0 +1,116 @@
+/* koftabasin.h - the proved reader of Layer II multichannel extension frames (ISO/IEC 13818-3).
+ *
+ * `rt staticlib mc_frame` at the repository's root proves the reader and makes
+ * target/staticlib/libmc_frame.a, which has both functions below. They allocate nothing, keep nothing
+ * between calls but what is in the state, and may run in several threads on different states and
+ * buffers. "Refusal N" is a number of document 01's table.
+ *
+ * A slice is a pointer and, right after it, the number of its elements. The pointer is not null and is
+ * aligned, even where the number is 0; the memory is the caller's, and the call keeps no pointer to it.
+ * What is written (the state and four buffers) overlaps nothing else that is lent.
+ */
+#ifndef KOFTABASIN_H
+#define KOFTABASIN_H
+
+#include <stddef.h>
+#include <stdint.h>
+
+#ifdef __cplusplus
+extern "C" {
+#endif
+
+/* Lengths of slices, in elements; those of the base are for each channel. */
+#define MC_MAX_STRING_BYTES 8192u /* head and payload: this many bytes at the most */
+#define MC_BASE_VALUES 1152u      /* 36 slots of 32 subbands, at 32 * slot + subband */
+#define MC_BASE_STEPS 32u         /* channel ch, subband sb at 32 * ch + sb */
+#define MC_STEPS 96u              /* extension channel m, subband sb at 32 * m + sb */
+#define MC_RAW 3456u              /* raw and work, each: at (36 * m + slot) * 32 + subband */
+#define MC_OUTPUT 5760u           /* at (36 * ch + slot) * 32 + subband */
+#define MC_LFE 12u
+
+/* What passes from frame to frame. The caller keeps it, changes nothing in it, and begins a stream
+ * with mc_fresh_state. */
+typedef struct McDecodeState {
+    double pred_hist[576]; /* the base's last nine scaled slots, at (base * 32 + subband) * 9 + k */
+    uint8_t layout_len;    /* output channels of the stream, 1 to 5; 0 before the first frame */
+    uint32_t accepted;     /* accepted frames; stays at 4294967295 */
+} McDecodeState;
+
+/* Makes *state all zero, whatever it held. */
+void mc_fresh_state(McDecodeState *state);
+
+/* Reads one frame.
+ *
+ * Lent, and only read:
+ *   head           header, check word (not verified) and composite status, first bit highest
+ *   payload        from the scfsi codes on; extension bytes are already joined
+ *   head_bits, payload_bits  at most eight times the bytes; bits after the used ones do not matter
+ *   rate           32000, 44100 or 48000
+ *   base_channels  1 or 2
+ *   raw_*          requantised base values, from -4 to 4
+ *   scaled_*       the same times their scalefactors, from -4 to 4
+ *                  with one base channel the right-hand slices are empty
+ *   base_nb_steps  step counts of the base: 0 or a class's; 32 for each base channel
+ *   lfe_allocation 0 to 15, 0 without LFE
+ *   nb_steps       step counts of the extension channels: 0 or a class's, 0 where none is transmitted
+ *
+ * Written where the frame is accepted, every element:
+ *   raw            transmitted samples; +0 where none was transmitted
+ *   work           scaled and predicted values of the extension channels; +0 elsewhere
+ *   output         subbands of the output channels, in the order left, right, centre, surround (left,
+ *                  right), second left, second right, of those that there are; +0 in the rest
+ *   lfe            LFE samples; +0 without an LFE allocation
+ *   state          history, layout_len and accepted
+ *
+ * A refused frame leaves buffers and state as they were, but that refusal 5 has put the base's last
+ * nine scaled slots into state->pred_hist.
+ *
+ * Returns one number: see the functions below. */
+uint64_t mc_decode_frame(McDecodeState *state,
+    const uint8_t *head, size_t head_len, size_t head_bits,
+    const uint8_t *payload, size_t payload_len, size_t payload_bits,
+    uint32_t rate, uint8_t base_channels,
+    const double *raw_left, size_t raw_left_len, const double *raw_right, size_t raw_right_len,
+    const double *scaled_left, size_t scaled_left_len,
+    const double *scaled_right, size_t scaled_right_len,
+    const uint32_t *base_nb_steps, size_t base_nb_steps_len, uint8_t lfe_allocation,
+    const uint32_t *nb_steps, size_t nb_steps_len,
+    double *raw, size_t raw_len, double *work, size_t work_len,
+    double *output, size_t output_len, double *lfe, size_t lfe_len);
+
+/* The refusals, in the order of document 01's table. They are looked for in the order 6, 7, head (1,
+ * then 2), 8, scfsi (1), 3, the remaining bits in turn (1 before 4), 5. */
+enum {
+    MC_ACCEPTED = 0,
+    MC_UNEXPECTED_END = 1,           /* a field passes its string's bit count */
+    MC_FORBIDDEN_DYN_CROSS_MODE = 2, /* unlisted crosstalk code: see mc_sbgr and mc_mode */
+    MC_ML_LAYER3_UNSUPPORTED = 3,    /* the header says Layer III multilingual channels */
+    MC_RESERVED_SCALEFACTOR = 4,     /* scalefactor code 63 */
+    MC_CONFIG_CHANGED = 5,           /* the stream's number of output channels is another */
+    MC_INVALID_ARGUMENT = 6,         /* a length, bit count, rate, base count, LFE allocation, base
+                                        step count or the state's layout_len is out of its bounds */
+    MC_VALUE_OUT_OF_RANGE = 7,       /* a base or history value is beyond -4 to 4 or not a number */
+    MC_INVALID_ALLOCATION = 8        /* a step count that no class has or at an untransmitted place;
+                                        an LFE allocation without LFE */
+};
+
+/* Bits 0 to 7: 0 or the refusal. */
+static inline unsigned mc_refusal(uint64_t answer) { return (unsigned)(answer & 0xFF); }
+
+/* Bits 8 to 31 of an accepted frame: bits used of the head. */
+static inline uint32_t mc_head_used(uint64_t answer) { return (uint32_t)(answer >> 8 & 0xFFFFFF); }
+
+/* Bits 32 to 63 of an accepted frame: bits used of the payload. */
+static inline uint32_t mc_payload_used(uint64_t answer) { return (uint32_t)(answer >> 32); }
+
+/* Bits 8 to 31 of refusal 2: the lowest subband group, 0 to 11, whose code is unlisted. */
+static inline uint32_t mc_sbgr(uint64_t answer) { return (uint32_t)(answer >> 8 & 0xFFFFFF); }
+
+/* Bits 32 to 63 of refusal 2: that code. At any other refusal bits 8 to 63 are 0. */
+static inline uint32_t mc_mode(uint64_t answer) { return (uint32_t)(answer >> 32); }
+
+#ifdef __cplusplus
+}
+#endif
+
+#endif

@@ -1,0 +1,108 @@
+//! Sequences of frames through one state: spoiled ones, then the good one, then the next plan.
+
+use crate::case::{Case, Made, spoil};
+use crate::lent::Compared;
+use crate::run::{Run, words};
+use oracle::generator::damage::{Part, cut};
+use oracle::generator::{Plan, Random, base};
+use oracle::scope::State;
+use std::sync::LazyLock;
+
+/// Plans in a sequence.
+const PLANS: u32 = 8;
+
+/// Of so many plans one is cut at every bit, if it is short.
+const CUT_ONE_OF: u32 = 1024;
+
+/// The number of output channels of each shape.
+static OUTPUTS: LazyLock<Vec<u32>> = LazyLock::new(|| {
+    let shapes = (0..Plan::SHAPES).map(Plan::plain_of_shape);
+    shapes.map(|plan| plan.layout().outputs() as u32).collect()
+});
+
+/// A failed comparison and the case in words.
+pub type Stopped = (crate::lent::Difference, String);
+
+/// Compares one case; where it differs, `place` tells where it stands.
+pub fn compare(run: &mut Run, case: &Case, place: impl Fn() -> String) -> Result<(), Stopped> {
+    run.compare(case)
+        .map_err(|difference| (difference, format!("{}\n{}", place(), words(case))))
+}
+
+/// The sequence of this number.
+pub fn sequence(run: &mut Run, seed: u64, number: u64) -> Result<(), Stopped> {
+    let mut random = Random::new(Random::new(seed ^ number.rotate_left(32)).bits64());
+    start(run, &mut random).map_err(|difference| (difference, "fresh state".to_string()))?;
+    for step in 0..PLANS {
+        let shape = shape(&mut random, run.state.count);
+        let made = Made::of(Plan::of_shape(shape, random.bits64()));
+        for _ in 0..random.below(6) {
+            let mut case = Case::of(&made, &run.state);
+            spoil(&mut random, &made, &mut case);
+            compare(run, &case, || {
+                format!("step {step}, shape {shape}, spoiled")
+            })?;
+        }
+        if random.chance(1, CUT_ONE_OF) && made.payload.bits < 3000 {
+            every_cut(run, &made, random.flag())?;
+        }
+        let mut case = Case::of(&made, &run.state);
+        case.done.push("nothing");
+        compare(run, &case, || format!("step {step}, shape {shape}"))?;
+    }
+    Ok(())
+}
+
+/// A frame cut at every bit; the first is one of the longest.
+pub fn cut_frame(run: &mut Run, seed: u64, number: u64) -> Result<(), Stopped> {
+    let mut random = Random::new(Random::new(seed ^ number.rotate_left(32)).bits64());
+    let made = Made::of(match number {
+        0 => Plan::longest(),
+        _ => Plan::random(random.bits64()),
+    });
+    start(run, &mut random).map_err(|difference| (difference, "fresh state".to_string()))?;
+    every_cut(run, &made, random.flag())?;
+    let case = Case::of(&made, &run.state);
+    compare(run, &case, || "whole".to_string())
+}
+
+/// Cuts both strings at every bit.
+pub fn every_cut(run: &mut Run, made: &Made, shorten: bool) -> Result<(), Stopped> {
+    for (part, bits) in [
+        (Part::Head, made.head.bits),
+        (Part::Payload, made.payload.bits),
+    ] {
+        for at in 0..bits {
+            let mut case = Case::of(made, &run.state);
+            cut(&mut case.input, part, at, shorten);
+            case.done.push("cut at every bit");
+            compare(run, &case, || format!("{part:?} cut to {at} bits"))?;
+        }
+    }
+    Ok(())
+}
+
+/// A fresh state half of the time, else one in the middle of a stream.
+fn start(run: &mut Run, random: &mut Random) -> Compared {
+    if random.flag() {
+        return run.start_fresh();
+    }
+    run.start_from(State {
+        history: base::history(random),
+        count: random.pick(&[0, 1, 2, 3, 4, 5, 5]),
+        frames: random.pick(&[0, 1, 1000, u32::MAX - 2, u32::MAX]),
+    });
+    Ok(())
+}
+
+/// A shape with this number of output channels, and one time in eight any; most have a stereo base.
+fn shape(random: &mut Random, count: u32) -> u64 {
+    let any = count == 0 || random.chance(1, 8);
+    loop {
+        let shape = random.below(Plan::SHAPES as u32);
+        let stereo = shape.is_multiple_of(2);
+        if (any || OUTPUTS[shape as usize] == count) && (stereo || random.chance(1, 4)) {
+            return u64::from(shape);
+        }
+    }
+}

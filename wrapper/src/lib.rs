@@ -1,0 +1,183 @@
+//! The proved reader of Layer II multichannel extension frames (ISO/IEC 13818-3), for Rust.
+//!
+//! Everything is lent by slices whose lengths are handed over with them; a wrong length is refused like
+//! any other wrong argument. A call allocates nothing. include/koftabasin.h says the same for C.
+//!
+//! ```
+//! use koftabasin::{Buffers, Frame, McState, OUTPUT, RAW, decode};
+//!
+//! let (mut raw, mut work) = ([0.0; RAW], [0.0; RAW]);
+//! let (mut output, mut lfe) = ([0.0; OUTPUT], [0.0; 12]);
+//! let base = [0.25; 1152];
+//! // A mono base and no extension channel: 16 header bits, 16 of the check word, 3 status flags.
+//! let frame = Frame {
+//!     head: &[0; 5],
+//!     head_bits: 35,
+//!     payload: &[],
+//!     payload_bits: 0,
+//!     rate: 48_000,
+//!     base_channels: 1,
+//!     raw_left: &base,
+//!     raw_right: &[],
+//!     scaled_left: &base,
+//!     scaled_right: &[],
+//!     base_nb_steps: &[0; 32],
+//!     lfe_allocation: 0,
+//!     nb_steps: &[0; 96],
+//! };
+//! let mut buffers = Buffers {
+//!     raw: &mut raw,
+//!     work: &mut work,
+//!     output: &mut output,
+//!     lfe: &mut lfe,
+//! };
+//! let mut state = McState::new();
+//! let used = decode(&mut state, &frame, &mut buffers)?;
+//! assert_eq!((used.head_bits, used.payload_bits), (35, 0));
+//! assert_eq!(output[0], 0.25);
+//! # Ok::<(), koftabasin::McError>(())
+//! ```
+
+#![no_std]
+
+mod answer;
+mod ffi;
+
+pub use answer::{Answer, McError, Used};
+
+/// The length of `Buffers::raw` and of `Buffers::work`.
+pub const RAW: usize = 3456;
+/// The length of `Buffers::output`.
+pub const OUTPUT: usize = 5760;
+/// The length of `Buffers::lfe`.
+pub const LFE: usize = 12;
+
+/// What passes from frame to frame.
+#[derive(Debug, Clone, PartialEq)]
+pub struct McState(ffi::McDecodeState);
+
+impl McState {
+    /// The state before the first frame of a stream.
+    pub fn new() -> McState {
+        let mut state = McState::with([0.0; 576], 0, 0);
+        state.reset();
+        state
+    }
+
+    /// A state as it was: history, layout length and accepted frames. The reader refuses a history
+    /// value beyond -4 to 4 and a layout length beyond 5.
+    pub const fn with(pred_hist: [f64; 576], layout_len: u8, accepted: u32) -> McState {
+        McState(ffi::McDecodeState {
+            pred_hist,
+            layout_len,
+            accepted,
+        })
+    }
+
+    /// Makes the state that of a new stream.
+    pub fn reset(&mut self) {
+        // SAFETY: the reference is to a whole state, with the layout that the library has.
+        unsafe { ffi::mc_fresh_state(&mut self.0) }
+    }
+
+    /// The base's last nine scaled slots, at `(base * 32 + subband) * 9 + k`, oldest first.
+    pub fn history(&self) -> &[f64; 576] {
+        &self.0.pred_hist
+    }
+
+    /// The number of output channels of the stream, 0 before its first frame.
+    pub fn layout_len(&self) -> u8 {
+        self.0.layout_len
+    }
+
+    /// Accepted frames.
+    pub fn accepted(&self) -> u32 {
+        self.0.accepted
+    }
+}
+
+impl Default for McState {
+    fn default() -> McState {
+        McState::new()
+    }
+}
+
+/// What is lent to a frame and only read.
+#[derive(Debug, Clone, Copy)]
+pub struct Frame<'a> {
+    /// Header, check word (not verified) and composite status, first bit highest; at most 8,192 bytes.
+    pub head: &'a [u8],
+    /// At most eight times the bytes.
+    pub head_bits: usize,
+    /// From the scfsi codes on; at most 8,192 bytes.
+    pub payload: &'a [u8],
+    /// At most eight times the bytes.
+    pub payload_bits: usize,
+    /// 32,000, 44,100 or 48,000.
+    pub rate: u32,
+    /// 1 or 2; with one the right-hand slices are empty.
+    pub base_channels: u8,
+    /// Requantised base values, 36 slots of 32 subbands, from -4 to 4.
+    pub raw_left: &'a [f64],
+    pub raw_right: &'a [f64],
+    /// The same, scaled.
+    pub scaled_left: &'a [f64],
+    pub scaled_right: &'a [f64],
+    /// Step counts of the base, 32 for each channel.
+    pub base_nb_steps: &'a [u32],
+    /// 0 to 15.
+    pub lfe_allocation: u8,
+    /// Step counts of the three extension channels, 32 each, 0 where none is transmitted.
+    pub nb_steps: &'a [u32],
+}
+
+/// What an accepted frame writes, every element of it, and a refused one leaves alone.
+#[derive(Debug)]
+pub struct Buffers<'a> {
+    /// Transmitted samples, at `(36 * channel + slot) * 32 + subband`; [`RAW`] values.
+    pub raw: &'a mut [f64],
+    /// Scaled and predicted values, likewise.
+    pub work: &'a mut [f64],
+    /// Subbands of the output channels, likewise; [`OUTPUT`] values.
+    pub output: &'a mut [f64],
+    /// [`LFE`] samples.
+    pub lfe: &'a mut [f64],
+}
+
+/// Reads one frame. A refusal leaves the buffers and the state as they were, but that
+/// [`McError::ConfigChanged`] has stored the base's last nine slots in the history.
+pub fn decode(
+    state: &mut McState,
+    frame: &Frame<'_>,
+    buffers: &mut Buffers<'_>,
+) -> Result<Used, McError> {
+    decode_packed(state, frame, buffers).result()
+}
+
+/// [`decode`] with its answer in one number.
+pub fn decode_packed(state: &mut McState, frame: &Frame<'_>, buffers: &mut Buffers<'_>) -> Answer {
+    // SAFETY: each pointer comes with the length of the slice that it is from, what is written is
+    // borrowed mutably and so overlaps nothing, and the library takes any lengths and numbers.
+    #[rustfmt::skip]
+    let answer = unsafe {
+        ffi::mc_decode_frame(
+            &mut state.0,
+            frame.head.as_ptr(), frame.head.len(), frame.head_bits,
+            frame.payload.as_ptr(), frame.payload.len(), frame.payload_bits,
+            frame.rate,
+            frame.base_channels,
+            frame.raw_left.as_ptr(), frame.raw_left.len(),
+            frame.raw_right.as_ptr(), frame.raw_right.len(),
+            frame.scaled_left.as_ptr(), frame.scaled_left.len(),
+            frame.scaled_right.as_ptr(), frame.scaled_right.len(),
+            frame.base_nb_steps.as_ptr(), frame.base_nb_steps.len(),
+            frame.lfe_allocation,
+            frame.nb_steps.as_ptr(), frame.nb_steps.len(),
+            buffers.raw.as_mut_ptr(), buffers.raw.len(),
+            buffers.work.as_mut_ptr(), buffers.work.len(),
+            buffers.output.as_mut_ptr(), buffers.output.len(),
+            buffers.lfe.as_mut_ptr(), buffers.lfe.len(),
+        )
+    };
+    Answer(answer)
+}

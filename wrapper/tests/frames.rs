@@ -1,0 +1,218 @@
+//! Small frames through the library: an accepted one, each refusal, and what each leaves behind.
+
+use koftabasin::{Answer, Buffers, Frame, LFE, McError, McState, OUTPUT, RAW, Used, decode};
+
+/// Owns what is lent. A stereo base at 48,000 Hz with no centre and no surround: 35 head bits, no
+/// payload.
+#[derive(Clone)]
+struct Lent {
+    head: Vec<u8>,
+    head_bits: usize,
+    payload: Vec<u8>,
+    rate: u32,
+    base_channels: u8,
+    base: [Vec<f64>; 4],
+    base_nb_steps: Vec<u32>,
+    lfe_allocation: u8,
+    nb_steps: Vec<u32>,
+    written: [Vec<f64>; 4],
+}
+
+impl Lent {
+    fn smallest() -> Lent {
+        Lent {
+            head: vec![0; 5],
+            head_bits: 35,
+            payload: vec![],
+            rate: 48_000,
+            base_channels: 2,
+            base: [0.25, 0.5, -1.0, 2.0].map(|value| vec![value; 1152]),
+            base_nb_steps: vec![0; 64],
+            lfe_allocation: 0,
+            nb_steps: vec![0; 96],
+            written: [RAW, RAW, OUTPUT, LFE].map(|length| vec![7.0; length]),
+        }
+    }
+
+    fn decode(&mut self, state: &mut McState) -> Result<Used, McError> {
+        let frame = Frame {
+            head: &self.head,
+            head_bits: self.head_bits,
+            payload: &self.payload,
+            payload_bits: 8 * self.payload.len(),
+            rate: self.rate,
+            base_channels: self.base_channels,
+            raw_left: &self.base[0],
+            raw_right: &self.base[1],
+            scaled_left: &self.base[2],
+            scaled_right: &self.base[3],
+            base_nb_steps: &self.base_nb_steps,
+            lfe_allocation: self.lfe_allocation,
+            nb_steps: &self.nb_steps,
+        };
+        let [raw, work, output, lfe] = &mut self.written;
+        decode(
+            state,
+            &frame,
+            &mut Buffers {
+                raw,
+                work,
+                output,
+                lfe,
+            },
+        )
+    }
+
+    /// The frame is refused so, and leaves the buffers and the state alone.
+    fn refused(mut self, error: McError) {
+        let mut state = McState::with([0.5; 576], 2, 3);
+        let before = state.clone();
+        assert_eq!(self.decode(&mut state), Err(error));
+        assert!(self.written.iter().flatten().all(|&value| value == 7.0));
+        assert_eq!(state, before);
+    }
+}
+
+#[test]
+fn smallest_frame_is_accepted() {
+    let (mut lent, mut state) = (Lent::smallest(), McState::new());
+    let used = Used {
+        head_bits: 35,
+        payload_bits: 0,
+    };
+    assert_eq!(lent.decode(&mut state), Ok(used));
+    let [raw, work, output, lfe] = &lent.written;
+    for silent in [raw, work, lfe, &output[2 * 1152..].to_vec()] {
+        assert!(silent.iter().all(|value| value.to_bits() == 0));
+    }
+    assert_eq!((output[0], output[1152]), (-1.0, 2.0));
+    assert_eq!((state.layout_len(), state.accepted()), (2, 1));
+    assert_eq!((state.history()[287], state.history()[288]), (-1.0, 2.0));
+}
+
+#[test]
+fn fresh_state_is_all_zero() {
+    let mut state = McState::with([-0.0; 576], 9, 9);
+    state.reset();
+    assert!(state.history().iter().all(|value| value.to_bits() == 0));
+    assert_eq!((state.layout_len(), state.accepted()), (0, 0));
+}
+
+#[test]
+fn short_head() {
+    let mut lent = Lent::smallest();
+    lent.head_bits = 34;
+    lent.refused(McError::UnexpectedEnd);
+}
+
+/// 3/2 with code 15 in groups 1, 3, and so on: centre 1, surround 2; after 32 bits the flags 110, tc 0,
+/// the left/right bit and twelve codes.
+#[test]
+fn unlisted_crosstalk_code() {
+    let mut lent = Lent::smallest();
+    lent.head = vec![0x30, 0, 0, 0, 0xC0, 0, 0, 0, 0, 0, 0];
+    for bit in [43, 44, 45, 46, 51, 52, 53, 54] {
+        lent.head[bit / 8] |= 0x80 >> (bit % 8);
+    }
+    lent.head_bits = 87;
+    lent.refused(McError::ForbiddenDynCrossMode { sbgr: 1, mode: 15 });
+}
+
+#[test]
+fn layer_three_flag() {
+    let mut lent = Lent::smallest();
+    lent.head[1] = 4;
+    lent.refused(McError::MlLayer3Unsupported);
+}
+
+#[test]
+fn reserved_scalefactor() {
+    let mut lent = Lent::smallest();
+    lent.head[0] = 4;
+    lent.lfe_allocation = 1;
+    lent.payload = vec![0xFC; 4];
+    lent.refused(McError::ReservedScalefactor);
+}
+
+#[test]
+fn changed_layout_stores_the_history() {
+    let (mut lent, mut state) = (Lent::smallest(), McState::with([0.5; 576], 5, 3));
+    assert_eq!(lent.decode(&mut state), Err(McError::ConfigChanged));
+    assert!(lent.written.iter().flatten().all(|&value| value == 7.0));
+    assert_eq!((state.layout_len(), state.accepted()), (5, 3));
+    assert_eq!((state.history()[0], state.history()[575]), (-1.0, 2.0));
+}
+
+#[test]
+fn wrong_arguments() {
+    let wrong: [fn(&mut Lent); 14] = [
+        |lent| lent.head_bits = 41,
+        |lent| lent.head = vec![0; 8193],
+        |lent| lent.rate = 22_050,
+        |lent| lent.base_channels = 3,
+        |lent| lent.base_channels = 1,
+        |lent| lent.lfe_allocation = 16,
+        |lent| lent.base_nb_steps[63] = 4,
+        |lent| lent.base_nb_steps.truncate(63),
+        |lent| lent.nb_steps.push(0),
+        |lent| lent.base[3].truncate(1151),
+        |lent| lent.written[0].truncate(3455),
+        |lent| lent.written[1].truncate(0),
+        |lent| lent.written[2].push(7.0),
+        |lent| lent.written[3].truncate(11),
+    ];
+    for change in wrong {
+        let mut lent = Lent::smallest();
+        change(&mut lent);
+        lent.refused(McError::InvalidArgument);
+    }
+    let mut state = McState::with([0.0; 576], 6, 0);
+    let answer = Lent::smallest().decode(&mut state);
+    assert_eq!(answer, Err(McError::InvalidArgument));
+}
+
+#[test]
+fn wild_values() {
+    let above = f64::from_bits(4.0f64.to_bits() + 1);
+    for (channel, value) in [(0, above), (1, -above), (2, f64::NAN), (3, f64::INFINITY)] {
+        let mut lent = Lent::smallest();
+        lent.base[channel][1151] = value;
+        lent.refused(McError::ValueOutOfRange);
+    }
+    let mut history = [0.0; 576];
+    history[575] = above;
+    let answer = Lent::smallest().decode(&mut McState::with(history, 0, 0));
+    assert_eq!(answer, Err(McError::ValueOutOfRange));
+}
+
+#[test]
+fn wrong_allocations() {
+    let mut lent = Lent::smallest();
+    lent.nb_steps[95] = 3;
+    lent.refused(McError::InvalidAllocation);
+    let mut lent = Lent::smallest();
+    lent.lfe_allocation = 1;
+    lent.refused(McError::InvalidAllocation);
+}
+
+#[test]
+fn answers_and_words() {
+    let used = Used {
+        head_bits: 232,
+        payload_bits: 55_134,
+    };
+    assert_eq!(Answer(55_134 << 32 | 232 << 8).result(), Ok(used));
+    for number in 1..=8 {
+        let answer = if number == 2 {
+            15 << 32 | 11 << 8 | 2
+        } else {
+            number
+        };
+        let error = Answer(answer).result().unwrap_err();
+        assert_eq!(u64::from(error.number()), number);
+        assert!(!error.to_string().is_empty());
+    }
+    let forbidden = McError::ForbiddenDynCrossMode { sbgr: 11, mode: 15 };
+    let words = "crosstalk code 15 in subband group 11 is not listed for this layout";
+    assert_eq!(forbidden.to_string(), words);
+}
