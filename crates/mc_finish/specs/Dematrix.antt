@@ -3,7 +3,7 @@ use mathlib.Core.Bool.{cond}
 use mathlib.Core.List.{List, [], _∷_}
 use Prim.Native.Nat.{ℕ, suc}
 use lib.Dec.{eqb}
-use lib.Ieee.{Float, binary64, ofBits, neg}
+use lib.Ieee.{Float, nan, binary64, ofBits, neg}
 use lib.ListN.{getD}
 use Rattle.floats.specs.Binary64.{_⊕_, _⊖_, _⊗_, zero64}
 use Rattle.mc_config.specs.Config.{byPair}
@@ -128,7 +128,7 @@ weighted22 tc lo ro t2 t3 =
 
 -- each signal times what its channel is for: the first two front, then centre or surround; +0 up to five
 abbrev pub at : List Float → ℕ → Float
-at xs i = getD xs i zero64
+at xs i = getD xs i nan
 
 unfoldable pub unweighted : ℕ → ℕ → List Float → List Float
 unweighted pair p xs =

@@ -2,7 +2,7 @@
 use mathlib.Core.Bool.{Bool, _&&_, cond}
 use mathlib.Core.List.{List}
 use Prim.Native.Nat.{ℕ, _+_, _-_, _*_, _/_, _%_}
-use lib.Dec.{eqb, ltb, leb}
+use lib.Dec.{ltb, leb}
 use lib.Ieee.{Float, nan}
 use lib.ListN.{getD, length}
 use Rattle.floats.specs.Binary64.{zero64}

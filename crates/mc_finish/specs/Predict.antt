@@ -1,5 +1,5 @@
 -- Multichannel prediction (ISO/IEC 13818-3, 2.5.3.2.1.3): from both base channels, in subbands 0 to 7.
-use mathlib.Core.Bool.{Bool, _&&_, cond}
+use mathlib.Core.Bool.{_&&_, cond}
 use mathlib.Core.List.{List, [], _∷_}
 use Prim.Native.Nat.{ℕ, zero, suc, _+_, _-_, _*_, _/_, _%_}
 use lib.Dec.{eqb, ltb}

@@ -1,11 +1,12 @@
 -- Crosstalk and scaling (ISO/IEC 13818-3, 2.5.3.2.1.2 and 2.5.3.2.3): a channel's values, times its own scalefactors.
 use mathlib.Core.Bool.{cond}
-use mathlib.Core.List.{List}
-use Prim.Native.Nat.{ℕ, _+_, _*_, _/_}
+use mathlib.Core.List.{List, []}
+use Prim.Native.Nat.{ℕ, _+_, _*_, _/_, _%_}
 use lib.Dec.{eqb}
 use lib.Ieee.{Float, nan}
 use lib.ListN.{getD}
 use Rattle.floats.specs.Binary64.{_⊗_, zero64}
+use Rattle.fill.specs.Tab.{tab}
 use Rattle.tables.specs.Scalefactor.{scalefactorOf}
 use Rattle.mc_config.specs.Crosstalk.{T, B}
 use Rattle.mc_unpack.specs.declared.McSettings.{McSettings}
@@ -18,6 +19,10 @@ pub record Base : Type 0 where
   pub rawRight : List Float
   pub scaledLeft : List Float
   pub scaledRight : List Float
+
+-- what dematrixing and the history take of it
+abbrev pub scaledBase : List Float → List Float → Base
+scaledBase left right = record { rawLeft = []; rawRight = []; scaledLeft = left; scaledRight = right }
 
 -- the chosen one of two base channels
 abbrev pub chosen : ℕ → List Float → List Float → List Float
@@ -41,3 +46,7 @@ factorAt r m slot sb = scalefactorOf (getD (r .scalefactor) (3 * (3 * sb + m) + 
 unfoldable pub scaledAt : McSettings → Record → Base → ℕ → ℕ → ℕ → Float
 scaledAt s r base m slot sb =
     cond (eqb (stepsAt s m sb) 0) zero64 (unscaledFrom s r base m slot sb (sourceAt s m sb) ⊗ factorAt r m slot sb)
+
+-- channel m, slot and subband at (36 m + slot) 32 + sb
+unfoldable pub scaledOf : McSettings → Record → Base → List Float
+scaledOf s r base = tab (λ (k : ℕ). scaledAt s r base (k / 1152) (k / 32 % 36) (k % 32)) 3456

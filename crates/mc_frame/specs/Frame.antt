@@ -6,15 +6,16 @@ use lib.Dec.{eqb, ltb, leb}
 use lib.Ieee.{Float, nan, binary64, ofBits, neg, le}
 use lib.ListN.{length, getD, replicate}
 use Rattle.floats.specs.Binary64.{zero64}
-use Rattle.bits.specs.Syntax.{Refusal, plain, Outcome, accepted, refused, run}
+use Rattle.bits.specs.Syntax.{Refusal, plain, Outcome, accepted, refused}
 use Rattle.mc_config.specs.declared.McHeader.{McHeader}
 use Rattle.mc_head.specs.declared.McStatus.{McStatus}
-use Rattle.mc_head.specs.Head.{head}
-use Rattle.mc_head.specs.Lent.{stringFits}
+use Rattle.mc_head.specs.Lent.{stringFits, headOf}
 use Rattle.mc_unpack.specs.declared.McSettings.{McSettings}
 use Rattle.mc_unpack.specs.Payload.{Codes}
 use Rattle.mc_unpack.specs.Record.{recordOf}
-use Rattle.mc_unpack.specs.Unpack.{Loan, settingsOf, loanFits, each, allocationsFit, payloadOf}
+use Rattle.mc_unpack.specs.Unpack.{settingsOf, loanFits, each}
+use Rattle.mc_unpack.specs.Answer.{loanBy}
+use Rattle.mc_unpack.specs.Settled.{settledOf}
 use Rattle.mc_finish.specs.Scale.{Base}
 use Rattle.mc_finish.specs.Output.{workOf, outputOf, historyOf, channels}
 use Rattle.mc_frame.specs.declared.McDecodeState.{McDecodeState}
@@ -32,10 +33,6 @@ pub record Lent : Type 0 where
   pub lfe : ℕ
   pub steps : List ℕ
 
--- the base's values as they are lent
-abbrev pub baseOf : List Float → List Float → List Float → List Float → Base
-baseOf rawLeft rawRight scaledLeft scaledRight = record { rawLeft = rawLeft; rawRight = rawRight; scaledLeft = scaledLeft; scaledRight = scaledRight }
-
 -- the buffers that it writes
 pub record Buffers : Type 0 where
   pub raw : List Float
@@ -45,22 +42,32 @@ pub record Buffers : Type 0 where
 
 -- ---- refusals 6 and 7
 
--- so many values for one channel; for the second as many, or none where there is one channel
-abbrev pub baseLengthsFit : ℕ → Base → Bool
-baseLengthsFit n b =
-    let right : ℕ = cond (eqb n 1) 0 1152 in
-    eqb (length (b .rawLeft)) 1152 && (eqb (length (b .scaledLeft)) 1152 && (eqb (length (b .rawRight)) right && eqb (length (b .scaledRight)) right))
+-- values of a second base channel
+abbrev pub rightLength : ℕ → ℕ
+rightLength baseChannels = cond (eqb baseChannels 1) 0 1152
 
-abbrev pub buffersFit : Buffers → Bool
-buffersFit w = eqb (length (w .raw)) 3456 && (eqb (length (w .work)) 3456 && (eqb (length (w .output)) 5760 && eqb (length (w .lfe)) 12))
+-- lengths of the base's four lists
+abbrev pub valuesLong : ℕ → ℕ → ℕ → ℕ → ℕ → Bool
+valuesLong baseChannels rawLeft rawRight scaledLeft scaledRight =
+    eqb rawLeft 1152
+    && (eqb rawRight (rightLength baseChannels) && (eqb scaledLeft 1152 && eqb scaledRight (rightLength baseChannels)))
 
--- all that is lent is as document 01 says; else wrong loan, refusal 6
-unfoldable pub lentFits : Lent → Buffers → McDecodeState → Bool
-lentFits l w st =
+-- lengths of the four buffers
+abbrev pub roomFits : ℕ → ℕ → ℕ → ℕ → Bool
+roomFits raw work output lfe = eqb raw 3456 && (eqb work 3456 && (eqb output 5760 && eqb lfe 12))
+
+-- all that is lent, the buffers by their lengths, is as document 01 says
+unfoldable pub lentBy : Lent → ℕ → ℕ → ℕ → ℕ → ℕ → Bool
+lentBy l raw work output lfe layoutLen =
     stringFits (l .head) (l .headBits)
     && (stringFits (l .payload) (l .payloadBits)
     && (loanFits (l .rate) (l .baseChannels) (l .lfe) (l .steps) (l .baseSteps)
-    && (baseLengthsFit (l .baseChannels) (l .base) && (buffersFit w && leb (st .«layout_len») 5))))
+    && (valuesLong (l .baseChannels) (length (l .base .rawLeft)) (length (l .base .rawRight)) (length (l .base .scaledLeft)) (length (l .base .scaledRight))
+    && (roomFits raw work output lfe && leb layoutLen 5))))
+
+-- else wrong loan, refusal 6
+abbrev pub lentFits : Lent → Buffers → McDecodeState → Bool
+lentFits l w st = lentBy l (length (w .raw)) (length (w .work)) (length (w .output)) (length (w .lfe)) (st .«layout_len»)
 
 abbrev pub four : Float
 four = ofBits binary64 0x4010000000000000
@@ -85,28 +92,28 @@ pub data Verdict : Type 0 where
   -- accepted: under which settings, with which codes, and the used bits of head and payload
   frame : McSettings → Codes → ℕ → ℕ → Verdict
 
-abbrev pub loanOf : Lent → McHeader → McStatus → Loan
-loanOf l h status =
-    record { rate = l .rate; baseChannels = l .baseChannels; header = h; status = status; lfe = l .lfe; steps = l .steps; baseSteps = l .baseSteps }
+-- what the payload is read under
+abbrev pub settingsFor : Lent → McHeader → McStatus → McSettings
+settingsFor l h status = settingsOf (loanBy (l .rate) (l .baseChannels) h status (l .lfe) (l .steps) (l .baseSteps))
 
--- the layout may follow on the state's: there is none yet, or it has as many channels
-abbrev pub follows : McDecodeState → McSettings → Bool
-follows st s = eqb (st .«layout_len») 0 || eqb (st .«layout_len») (channels s)
+-- a layout of so many channels may follow on the state's: there is none yet, or it has as many
+abbrev pub follows : ℕ → ℕ → Bool
+follows layoutLen n = eqb layoutLen 0 || eqb layoutLen n
 
 unfoldable pub verdictUnpacked : McDecodeState → McSettings → ℕ → Outcome Codes → Verdict
 verdictUnpacked st s headUsed (refused r) = refusal r
-verdictUnpacked st s headUsed (accepted c used) = cond (follows st s) (frame s c headUsed used) (changed s)
+verdictUnpacked st s headUsed (accepted c used) = cond (follows (st .«layout_len») (channels s)) (frame s c headUsed used) (changed s)
 
 unfoldable pub verdictHead : Lent → McDecodeState → Outcome (McHeader × (ℕ × McStatus)) → Verdict
 verdictHead l st (refused r) = refusal r
 verdictHead l st (accepted (h, (word, status)) used) =
-    let s = settingsOf (loanOf l h status) in
-    cond (allocationsFit s) (verdictUnpacked st s used (run (payloadOf s) (l .payload) (l .payloadBits) 0)) (refusal (plain 8))
+    let s = settingsFor l h status in
+    verdictUnpacked st s used (settledOf s (l .payload) (l .payloadBits))
 
 unfoldable pub verdictOf : Lent → Buffers → McDecodeState → Verdict
 verdictOf l w st =
     cond (lentFits l w st)
-    (cond (valuesFit (l .base) (st .«pred_hist»)) (verdictHead l st (run (head (l .baseChannels)) (l .head) (l .headBits) 0)) (refusal (plain 7)))
+    (cond (valuesFit (l .base) (st .«pred_hist»)) (verdictHead l st (headOf (l .head) (l .headBits) (l .baseChannels))) (refusal (plain 7)))
     (refusal (plain 6))
 
 -- ---- what it leaves
@@ -117,14 +124,18 @@ answerOf (refusal r) = refused r
 answerOf (changed s) = refused (plain 5)
 answerOf (frame s c headUsed used) = accepted headUsed used
 
+-- what an accepted frame writes
+unfoldable pub written : McSettings → Codes → Base → List Float → Buffers
+written s c base history =
+    let r = recordOf s c in
+    let work = workOf s r base history in
+    record { raw = r .raw; work = work; output = outputOf s base work; lfe = r .lfe }
+
 -- a refusal leaves the buffers as they were
 unfoldable pub buffersOf : Verdict → Base → List Float → Buffers → Buffers
 buffersOf (refusal r) base history w = w
 buffersOf (changed s) base history w = w
-buffersOf (frame s c headUsed used) base history w =
-    let r = recordOf s c in
-    let work = workOf s r base history in
-    record { raw = r .raw; work = work; output = outputOf s base work; lfe = r .lfe }
+buffersOf (frame s c headUsed used) base history w = written s c base history
 
 -- accepted frames stay at the top of 32 bits
 abbrev pub oneMore : ℕ → ℕ
@@ -143,10 +154,15 @@ pub record After : Type 0 where
   pub buffers : Buffers
   pub state : McDecodeState
 
+abbrev pub afterVerdict : Verdict → Base → Buffers → McDecodeState → After
+afterVerdict v base w st = record { answer = answerOf v; buffers = buffersOf v base (st .«pred_hist») w; state = stateOf v base st }
+
+-- from the payload on
+unfoldable pub afterUnpacked : McDecodeState → McSettings → ℕ → List ℕ → ℕ → Base → Buffers → After
+afterUnpacked st s headUsed payload bits base w = afterVerdict (verdictUnpacked st s headUsed (settledOf s payload bits)) base w st
+
 unfoldable pub frameOf : Lent → Buffers → McDecodeState → After
-frameOf l w st =
-    let v = verdictOf l w st in
-    record { answer = answerOf v; buffers = buffersOf v (l .base) (st .«pred_hist») w; state = stateOf v (l .base) st }
+frameOf l w st = afterVerdict (verdictOf l w st) (l .base) w st
 
 -- a fresh state is all zero
 unfoldable pub fresh : McDecodeState

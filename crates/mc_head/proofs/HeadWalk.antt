@@ -1,5 +1,5 @@
 -- The whole head from its first bit, and the answer by cases.
-use mathlib.Core.Path.{_≡_, refl, ap, _∙_}
+use mathlib.Core.Path.{_≡_, refl, sym, ap, _∙_}
 use mathlib.Core.Bool.{Bool, true, false, not, cond}
 use mathlib.Core.List.{List}
 use mathlib.Core.Logic.{⊎-elim}
@@ -23,6 +23,7 @@ use Rattle.mc_head.specs.Answer.{valuesOf, outcomeOf, noHead, valuesAfte
 use Rattle.mc_head.specs.Head.{mcHeader, mcErrorCheck, modeAt, firstForbidden, checkModes, mcCompositeStatusInfo, head}
 use Rattle.mc_head.specs.HeadYields.{head-refused}
 use Rattle.mc_head.specs.Lent.{stringFits, baseFits, headOf}
+use Rattle.mc_head.specs.LentLaws.{lent-fits}
 use Rattle.mc_head.specs.declared.HeadAnswer.the-variants.{Accepted, Refused}
 use Rattle.mc_head.specs.declared.McHead.{McHead}
 use Rattle.mc_head.specs.declared.McStatus.{McStatus}
@@ -90,8 +91,7 @@ module _ (bytes : List ℕ) (bits baseChannels : ℕ) (s : Bool) (es : s ≡ str
         (e : run (head baseChannels) bytes bits 0 ≡ runFrom bytes bits end (checkModes pair (status .«dyn_cross») (h, (word, status))))
       where
         lent : headOf bytes bits baseChannels ≡ run (head baseChannels) bytes bits 0
-        unfolding headOf
-        lent = rw (← es, ← ef, not-false s ns, not-false f nf)
+        lent = lent-fits bytes bits baseChannels (sym es ∙ not-false s ns) (sym ef ∙ not-false f nf)
 
         -- a cursor keeps no other refusal than 1
         pub short : (r : McHead) → (end .err ≡ 0 → ⊥) → (r .answer ≡ Refused UnexpectedEnd) × (valuesOf r ≡ noHead) → Answers (headOf bytes bits baseChannels) r

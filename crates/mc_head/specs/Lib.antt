@@ -8,3 +8,5 @@ pub mod HeadYields
 pub mod HeadRecovers
 pub mod HeadWidth
 pub mod LongestHead
+pub mod LentLaws
+pub mod AnswerLaws

@@ -27,7 +27,9 @@ tc-yields once bits =
     (λ e. yields-times 12 0 (λ g. Entries 12 (λ g v. v < 2 ^ bits)) (entries-zero 12 (λ k. pow-pos bits))
     (λ g a b t. yields-field (λ v h. yields-done (entries-set g v h t))))
 
--- an entry of the crosstalk table: codes at even places, second stereo bits at odd ones
+-- ---- dyn_cross_mode and dyn_second_stereo
+
+-- an entry of the table: codes at even places, second stereo bits at odd ones
 abbrev pub crossEntry : ℕ → ℕ → ℕ → ℕ → Type 0
 crossEntry modeBits secondBits k v = (k % 2 ≡ 0 → v < 2 ^ modeBits) × (k % 2 ≡ 1 → v < 2 ^ secondBits)
 
@@ -40,7 +42,9 @@ cross-yields modeBits secondBits =
     (λ second h′. yields-done
     (entries-set (2 * g + 1) second (λ e. absurd (omega arith), λ e. h′) (entries-set (2 * g) mode (λ e. h, λ e. absurd (omega arith)) t)))))
 
--- the prediction table: flags at multiples of 7, and counts after each; none past the predictors of the group
+-- ---- mc_prediction and predsi
+
+-- an entry of the table: flags at multiples of 7, and counts after each; none past the predictors of the group
 abbrev pub countEntry : (ℕ → ℕ) → ℕ → ℕ → Type 0
 countEntry predictors k v = (v ≤ 3) × (predictors (k / 7) < k % 7 → v ≡ 0)
 
@@ -54,8 +58,8 @@ pub record Predicted (on : Bool) (predictors : ℕ → ℕ) (level : ℕ) (t : L
   pub rest : (k : ℕ) → level ≤ k → getD t k 0 ≡ 0
 
 module _ (on : Bool) (predictors : ℕ → ℕ) where
-  level-up : {n m : ℕ} {t : List ℕ} → n ≤ m → Predicted on predictors n t → Predicted on predictors m t
-  level-up h p = record { table = p .table; off = p .off; rest = λ k b. p .rest k (omega arith) }
+  predicted-le : {n m : ℕ} {t : List ℕ} → n ≤ m → Predicted on predictors n t → Predicted on predictors m t
+  predicted-le h p = record { table = p .table; off = p .off; rest = λ k b. p .rest k (omega arith) }
 
   -- the flag of group g is stored
   flag-stored : (g v : ℕ) (t : List ℕ) → v < 2 ^ bitsIf on 1 → Predicted on predictors (7 * g) t → Predicted on predictors (7 * g + 1) (set t (7 * g) v)
@@ -119,11 +123,11 @@ module _ (on : Bool) (predictors : ℕ → ℕ) where
           let l = p .table .sized in
           yields-weaken
           (yields-times (predictors g) 0 (Counted g)
-          (record { so-far = level-up (omega arith) stored; flag = getD-set-same t (7 * g) v 0 (omega arith) ∙ eqb-true v 1 e })
+          (record { so-far = predicted-le (omega arith) stored; flag = getD-set-same t (7 * g) v 0 (omega arith) ∙ eqb-true v 1 e })
           (λ px a b c. yields-field (λ n hn. yields-done (count-stored g px n a (omega arith) (omega arith) hn c))))
-          (λ a c. level-up (omega arith) (c .so-far))
+          (λ a c. predicted-le (omega arith) (c .so-far))
           (λ x r. r)
-      go false e = yields-done (level-up (omega arith) stored)
+      go false e = yields-done (predicted-le (omega arith) stored)
 
   pub prediction-yields : ((g : ℕ) → predictors g ≤ 6) → {R : Refusal → Type 0} → Yields (prediction on predictors) (Predicted on predictors 56) R
   unfolding prediction predictionAt

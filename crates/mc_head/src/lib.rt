@@ -133,7 +133,7 @@ fn read_fields(bytes: &[u8], limit: usize, base_channels: u8) -> FieldsRead
     }
 }
 
-// Reads the head in the first `bits` bits.
+// Reads the head in the first `bits` bits. A wrong loan is refused before any bit is read, and a forbidden code after the last.
 pub fn read_head(bytes: &[u8], bits: usize, base_channels: u8) -> McHead
     ensures { λ r. ⌜ outcomeOf r ≡ headOf (now (bytes .entry)) bits «base_channels» ⌝ }
     ensures { λ r. ⌜ valuesOf r ≡ valuesAfter (headOf (now (bytes .entry)) bits «base_channels») ⌝ }

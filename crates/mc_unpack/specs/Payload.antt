@@ -5,7 +5,7 @@ use Prim.Native.Nat.{ℕ, _+_, _*_, _/_, _%_}
 use lib.Dec.{eqb, ltb}
 use lib.ListN.{getD, set, replicate}
 use Rattle.bits.specs.Table.{set3}
-use Rattle.bits.specs.Syntax.{Syntax, plain, done, refuse, field, bind, both, times}
+use Rattle.bits.specs.Syntax.{Syntax, plain, done, refuse, field, both, times}
 use Rattle.bitalloc.specs.Classes.{grouped, bitsPerCodeword}
 use Rattle.mc_head.specs.Head.{bitsIf, countAt}
 

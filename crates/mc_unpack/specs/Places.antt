@@ -5,11 +5,11 @@ use Prim.Native.Nat.{ℕ, _+_, _*_, _/_, _%_}
 use lib.Dec.{eqb, ltb, leb}
 use lib.ListN.{getD}
 use Rattle.fill.specs.Tab.{tab}
+use Rattle.mc_config.specs.Crosstalk
 use Rattle.mc_config.specs.declared.McConfig.{McConfig}
 use Rattle.mc_config.specs.Config.{configOf, pairOf, mainOf}
 use Rattle.mc_config.specs.Groups.{sbgrOf}
 use Rattle.mc_config.specs.Crosstalk.{T, B}
-use Rattle.mc_config.specs.Crosstalk
 use Rattle.mc_config.specs.Roles.{baseOf}
 use Rattle.mc_head.specs.Head.{modeAt, secondAt}
 use Rattle.mc_unpack.specs.declared.McSettings.{McSettings}

@@ -5,11 +5,11 @@ use Prim.Native.Nat.{ℕ, _+_, _*_, _/_, _%_}
 use lib.Dec.{eqb, ltb}
 use lib.Ieee.{Float}
 use lib.ListN.{getD}
-use Rattle.floats.specs.Binary64.{zero64}
 use Rattle.fill.specs.Tab.{tab}
+use Rattle.floats.specs.Binary64.{zero64}
 use Rattle.bitalloc.specs.Classes.{grouped}
-use Rattle.requant.specs.Requant.{degrouped, lfeSampleOf, coefficientOf}
 use Rattle.requant.specs.Requant
+use Rattle.requant.specs.Requant.{degrouped, lfeSampleOf, coefficientOf}
 use Rattle.mc_head.specs.Head.{countAt}
 use Rattle.mc_unpack.specs.declared.McSettings.{McSettings}
 use Rattle.mc_unpack.specs.Places.{ownAt}

@@ -1,12 +1,12 @@
 -- Unpacking a payload string: what is lent is checked (refusal 6), then the allocations (8), then the payload is read (1, 3, 4).
-use mathlib.Core.Bool.{Bool, not, _&&_, _||_, cond}
-use mathlib.Core.List.{List, [], _∷_}
+use mathlib.Core.Bool.{Bool, _&&_, _||_, cond}
+use mathlib.Core.List.{List}
 use Prim.Native.Nat.{ℕ, zero, suc, _+_, _*_, _/_, _%_}
-use lib.Dec.{eqb, ltb, leb}
+use lib.Dec.{eqb, leb}
 use lib.ListN.{length, getD}
 use Rattle.bits.specs.Syntax.{Syntax, Outcome, plain, refused, run}
-use Rattle.bitalloc.specs.Classes.{isClass}
 use Rattle.fill.specs.Tab.{tab}
+use Rattle.bitalloc.specs.Classes.{isClass}
 use Rattle.mc_config.specs.declared.McHeader.{McHeader}
 use Rattle.mc_head.specs.declared.McStatus.{McStatus}
 use Rattle.mc_head.specs.Lent.{stringFits, baseFits}

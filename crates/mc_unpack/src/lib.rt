@@ -2,6 +2,45 @@
 use mc_config::McHeader;
 use mc_head::McStatus;
 
+mod allocations;
+mod entry;
+mod granules;
+mod loan;
+mod payload;
+mod places;
+mod predictors;
+mod samples;
+mod scalefactors;
+mod values;
+
+pub use allocations::allocations_fit;
+pub use entry::McPayload;
+pub use entry::UnpackAnswer;
+pub use entry::Unpacked;
+pub use entry::decide;
+pub use entry::error_of;
+pub use entry::read_mc_payload;
+pub use entry::unpack;
+pub use granules::GranuleCodes;
+pub use granules::read_granules;
+pub use loan::loan_fits;
+pub use loan::settings;
+pub use payload::PayloadCodes;
+pub use payload::ScfsiCodes;
+pub use payload::read_payload;
+pub use payload::read_scfsi;
+pub use places::Places;
+pub use places::places_of;
+pub use predictors::PredictorCodes;
+pub use predictors::read_predictors;
+pub use samples::write_lfe;
+pub use samples::write_raw;
+pub use scalefactors::ScalefactorCodes;
+pub use scalefactors::read_lf_scalefactor;
+pub use scalefactors::read_scalefactors;
+pub use values::coefs;
+pub use values::delays;
+
 // What a payload is read under.
 pub struct McSettings {
     pub rate: u32,

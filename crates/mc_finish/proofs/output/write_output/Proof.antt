@@ -1,0 +1,45 @@
+-- `output::write_output` meets its contract.
+use mathlib.Core.Path.{_∙_, ap}
+use lib.Dec.{eqb}
+use lib.ListN.{length}
+use Rattle.mc_finish.specs.Scale.{scaledBase}
+use Rattle.mc_finish.specs.Laws.Chosen.{chosen-long}
+use Rattle.mc_finish.specs.Laws.OutputByMix.{second-fits, output-written}
+use borrow.Author.Needs.{needs}
+use Rattle.mc_finish.proofs.output.write_output.Statement.{statement}
+use Rattle.mc_finish.proofs.output.write_output.Tie as tie
+
+tcs-of-requires : tie.Need-tcs-of-requires
+tcs-of-requires c κs = search needs
+
+second-base-requires : tie.Need-second-base-requires
+second-base-requires c κs = search needs
+
+mix-of-requires : tie.Need-mix-of-requires
+mix-of-requires c κs = search needs
+
+write-mixed-requires : tie.Need-write-mixed-requires
+write-mixed-requires c κs =
+    let s = c .before .before .before .before .before .before .before .before .before .before .before .before in
+    let a = s .args in
+    let long = chosen-long (eqb (a .s .«base_channels») 1) 1 (a .left .now) (a .right .now) (s .pre .0) (s .pre .1) in
+    (s .pre .0, ap length (c .before .before .before .second-base .ensures) ∙ long, s .pre .2, s .pre .3, rw (c .before .before .mix-of .ensures) (second-fits (a .s)))
+
+same-length : tie.Need-same-length
+same-length c = search needs
+
+returns : tie.Need-returns
+returns c =
+    let a = c .before .before .before .before .before .before .before .before .before .before .before .before .before .before .before .args in
+    output-written (a .s) (scaledBase (a .left .now) (a .right .now)) (a .work .now) (c .before .before .before .before .before .mix-of .ensures) (c .before .before .before .before .before .before .before .tcs-of .ensures) (c .before .before .before .before .before .before .second-base .ensures) (c .before .before .write-mixed .ensures)
+
+pub write-output-spec : {M : Type 1} → statement M
+write-output-spec =
+    tie.close
+    (tie.spec
+    tcs-of-requires
+    second-base-requires
+    mix-of-requires
+    write-mixed-requires
+    same-length
+    returns)

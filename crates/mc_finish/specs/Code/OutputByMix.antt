@@ -1,0 +1,70 @@
+-- The output as the code makes it: the five channels of a slot and subband at a time, slot and subband at j = 32 slot + sb.
+use mathlib.Core.Path.{_≡_}
+use mathlib.Core.Bool.{true, _&&_, cond}
+use mathlib.Core.List.{List}
+use Prim.Native.Nat.{ℕ, _+_, _-_, _*_, _/_, _%_, _≤_}
+use lib.Dec.{ltb}
+use lib.Ieee.{Float, nan}
+use lib.ListN.{getD, set}
+use Rattle.fill.specs.Tab.{tab}
+use Rattle.floats.specs.Binary64.{zero64}
+use Rattle.mc_config.specs.Config.{mainOf}
+use Rattle.mc_config.specs.Groups.{sbgrOf}
+use Rattle.mc_unpack.specs.declared.McSettings.{McSettings}
+use Rattle.mc_unpack.specs.Places.{config, pair, msblimit}
+use Rattle.mc_finish.specs.declared.output.Mix.{Mix}
+use Rattle.mc_finish.specs.Scale.{chosen}
+use Rattle.mc_finish.specs.Dematrix.{dematrixed}
+use Rattle.mc_finish.specs.Output.{channels}
+
+abbrev pub mixOf : McSettings → Mix
+mixOf s =
+    record {
+      pair = pair s;
+      procedure = s .header .«dematrix_procedure»;
+      main = mainOf (pair s);
+      channels = channels s;
+      «second_stereo» = config s .«second_stereo»;
+      limit = msblimit (s .rate);
+    }
+
+-- tc_allocation by subband
+unfoldable pub tcsOf : List ℕ → List ℕ
+tcsOf tc = tab (λ (sb : ℕ). getD tc (sbgrOf sb) 0) 32
+
+-- main channel m as dematrixing takes it
+abbrev pub mainBy : Mix → List Float → ℕ → ℕ → Float
+mainBy x work m j = cond (ltb m (x .main) && ltb (j % 32) (x .limit)) (getD work (1152 * m + j) nan) zero64
+
+abbrev pub mixedBy : Mix → ℕ → List Float → List Float → List Float → ℕ → List Float
+mixedBy x tc left right work j =
+    dematrixed (x .pair) (x .procedure) tc (getD left j nan) (getD right j nan) (mainBy x work 0 j) (mainBy x work 1 j) (mainBy x work 2 j)
+
+-- a second stereo programme takes the last two channels below the subband limit
+unfoldable pub secondBy : Mix → List Float → List Float → ℕ → List Float
+secondBy x mixed work j =
+    cond (x .«second_stereo» && ltb (j % 32) (x .limit))
+    (set (set mixed (x .channels - 2) (getD work (1152 * x .main + j) nan)) (x .channels - 1) (getD work (1152 * (x .main + 1) + j) nan))
+    mixed
+
+-- where there is one, there are channels for it
+pub record SecondFits (x : Mix) : Type 0 where
+  pub fits : x .«second_stereo» ≡ true → (2 ≤ x .channels) × (x .channels ≤ 5) × (x .main ≤ 1)
+
+-- channel ch; +0 beyond the layout
+abbrev pub channelBy : Mix → List Float → ℕ → Float
+channelBy x values ch = cond (ltb ch (x .channels)) (getD values ch nan) zero64
+
+-- the element k of the output
+abbrev pub outputByAt : Mix → List ℕ → List Float → List Float → List Float → ℕ → Float
+outputByAt x tcs left right work k =
+    let j = k % 1152 in
+    channelBy x (secondBy x (mixedBy x (getD tcs (j % 32) 0) left right work j) work j) (k / 1152)
+
+unfoldable pub outputBy : Mix → List ℕ → List Float → List Float → List Float → List Float
+outputBy x tcs left right work = tab (outputByAt x tcs left right work) 5760
+
+-- ---- the history, from the base channels that stand for both
+
+abbrev pub historyBy : List Float → List Float → ℕ → Float
+historyBy left right i = getD (chosen (i / 288) left right) (32 * (27 + i % 9) + i % 288 / 9) nan

@@ -1,0 +1,60 @@
+-- The tables of the places give the scaled values of the definition.
+use mathlib.Core.Path.{_≡_, _∙_}
+use mathlib.Core.List.{List}
+use Prim.Native.Nat.{ℕ, _+_, _*_, _/_, _%_, _<_}
+use native.Mathlib.Omega.{arith}
+use lib.Ieee.{nan}
+use lib.ListN.{getD}
+use Rattle.fill.specs.TabLaws.{getD-tab}
+use Rattle.tables.specs.Scalefactor.{scalefactorOf}
+use Rattle.mc_unpack.specs.declared.McSettings.{McSettings}
+use Rattle.mc_unpack.specs.Places.{place, stepsAt, sourceAt, baseAt, stepsOf, sourcesOf, basesOf}
+use Rattle.mc_unpack.specs.Record.{Record}
+use Rattle.mc_finish.specs.Scale.{Base, scaledAt, scaledOf}
+use Rattle.mc_finish.specs.Code.Column.{columnAt, placeOf, slotOf}
+use Rattle.mc_finish.specs.Code.ScaleByPlace.{factorsOf, placeScaled, scaledByPlace}
+use Rattle.mc_finish.specs.Laws.TabSame.{tab-same}
+
+module _ (s : McSettings) (i : ℕ) (h : i < 96) where
+  steps-at : getD (stepsOf s) i 0 ≡ stepsAt s (i % 3) (i / 3)
+  unfolding stepsOf
+  steps-at = getD-tab 0 (place (stepsAt s)) 96 i h
+
+  pub source-at : getD (sourcesOf s) i 0 ≡ sourceAt s (i % 3) (i / 3)
+  unfolding sourcesOf
+  source-at = getD-tab 0 (place (sourceAt s)) 96 i h
+
+  pub base-at : getD (basesOf s) i 0 ≡ baseAt s (i % 3) (i / 3)
+  unfolding basesOf
+  base-at = getD-tab 0 (place (baseAt s)) 96 i h
+
+factor-at : (scalefactor : List ℕ) (j : ℕ) → j < 288 → getD (factorsOf scalefactor) j nan ≡ scalefactorOf (getD scalefactor j 0)
+unfolding factorsOf
+factor-at scalefactor j h = getD-tab nan (λ (i : ℕ). scalefactorOf (getD scalefactor i 0)) 288 j h
+
+-- a place is the one of its channel and subband
+at-place : (i : ℕ) → 3 * (i / 3) + i % 3 ≡ i
+at-place i = omega arith
+
+module _ (s : McSettings) (r : Record) (b : Base) where
+  place-scaled :
+      (i slot : ℕ)
+      → i < 96
+      → slot < 36
+      → placeScaled (stepsOf s) (sourcesOf s) (basesOf s) (factorsOf (r .scalefactor)) (r .raw) (b .rawLeft) (b .rawRight) i slot ≡ scaledAt s r b (i % 3) slot (i / 3)
+  unfolding scaledAt
+  place-scaled i slot h l =
+      let own : columnAt i + 32 * slot ≡ (36 * (i % 3) + slot) * 32 + i / 3 = omega arith in
+      let base : i / 3 + 32 * slot ≡ 32 * slot + i / 3 = omega arith in
+      let x = sourceAt s (i % 3) (i / 3) in
+      let earlier : 1152 * x + i / 3 + 32 * slot ≡ (36 * x + slot) * 32 + i / 3 = omega arith in
+      rw (steps-at s i h, source-at s i h, base-at s i h, factor-at (r .scalefactor) (3 * i + slot / 12) (omega arith), own, base, earlier, at-place i)
+
+  pub scaled-by-place :
+      scaledByPlace (stepsOf s) (sourcesOf s) (basesOf s) (factorsOf (r .scalefactor)) (r .raw) (b .rawLeft) (b .rawRight) ≡ scaledOf s r b
+  unfolding scaledByPlace scaledOf
+  scaled-by-place =
+      tab-same 3456 (λ k h.
+      let m : placeOf k % 3 ≡ k / 1152 = omega arith in
+      let sb : placeOf k / 3 ≡ k % 32 = omega arith in
+      place-scaled (placeOf k) (slotOf k) (omega arith) (omega arith) ∙ rw (m, sb))

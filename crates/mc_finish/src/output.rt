@@ -1,0 +1,177 @@
+// The output by channel, slot and subband, and the history that the next frame predicts from (ISO/IEC 13818-3, 2.5.3.2.1).
+ghost use mathlib.Core.Path.{_≡_};
+ghost use mathlib.Core.Bool.{cond};
+ghost use Prim.Native.Nat.{_+_, _*_, _<_};
+ghost use lib.Dec.{eqb};
+ghost use lib.ListN.{length};
+ghost use Rattle.mc_unpack.specs.Places.{msblimit};
+ghost use Rattle.mc_finish.specs.Code.Strided.{across};
+ghost use Rattle.mc_finish.specs.Scale.{scaledBase};
+ghost use Rattle.mc_finish.specs.Output.{outputOf, historyOf};
+ghost use Rattle.mc_finish.specs.Code.OutputByMix.{mixOf, tcsOf, mainBy, mixedBy, SecondFits, secondBy, channelBy, outputBy, historyBy};
+use crate::dematrix::dematrix;
+use crate::scale::second_base;
+use mc_config::McConfig;
+use mc_config::sbgr_of_subband;
+use mc_unpack::McSettings;
+
+// What the output goes by in every slot and subband.
+struct Mix {
+    pair: u32,
+    procedure: u8,
+    // main channels of the extension, and output channels
+    main: usize,
+    channels: usize,
+    second_stereo: bool,
+    // subbands from here on carry nothing
+    limit: usize,
+}
+
+// msblimit (2.5.2.17).
+fn msblimit(rate: u32) -> usize
+    ensures { λ r. ⌜ r ≡ msblimit rate ⌝ }
+{
+    if rate == 48000 { 27 } else { 30 }
+}
+
+fn mix_of(s: McSettings) -> Mix
+    ensures { λ r. ⌜ r ≡ mixOf s ⌝ }
+{
+    let config = McConfig::from_header(s.header, s.base_channels);
+    Mix {
+        pair: config.pair(),
+        procedure: s.header.dematrix_procedure,
+        main: config.main_nmch(),
+        channels: config.layout().count,
+        second_stereo: config.second_stereo,
+        limit: msblimit(s.rate),
+    }
+}
+
+// tc_allocation by subband.
+fn tcs_of(tc: &[u8; 12]) -> [u8; 32]
+    ensures { λ r. ⌜ r ≡ tcsOf (now (tc .entry)) ⌝ }
+{
+    let mut tcs = [0u8; 32];
+    for sb in 0usize..32 {
+        tcs[sb] = tc[sbgr_of_subband(sb)];
+    }
+    tcs
+}
+
+// Main channel m at place j of its 1152, as dematrixing takes it.
+fn main_at(x: Mix, work: &[f64], m: usize, j: usize) -> f64
+    requires { ⌜ (length (now work) ≡ 3456) × (m < 3) × (j < 1152) ⌝ }
+    ensures { λ r. ⌜ r ≡ mainBy x (now (work .entry)) m j ⌝ }
+{
+    if m < x.main {
+        if j % 32 < x.limit {
+            return work[1152 * m + j];
+        }
+    }
+    0.0
+}
+
+// The five dematrixed values at place j.
+fn mixed_at(x: Mix, tc: u8, left: &[f64], right: &[f64], work: &[f64], j: usize) -> [f64; 5]
+    requires { ⌜ (length (now left) ≡ 1152) × (length (now right) ≡ 1152) × (length (now work) ≡ 3456) × (j < 1152) ⌝ }
+    ensures { λ r. ⌜ r ≡ mixedBy x tc (now (left .entry)) (now (right .entry)) (now (work .entry)) j ⌝ }
+{
+    let t2 = main_at(x, work, 0, j);
+    let t3 = main_at(x, work, 1, j);
+    let t4 = main_at(x, work, 2, j);
+    dematrix(x.pair, x.procedure, tc, left[j], right[j], t2, t3, t4)
+}
+
+// A second stereo programme, as it was sent, takes the last two channels below the subband limit.
+fn with_second(x: Mix, mixed: [f64; 5], work: &[f64], j: usize) -> [f64; 5]
+    requires { ⌜ (length (now work) ≡ 3456) × (j < 1152) × SecondFits x ⌝ }
+    ensures { λ r. ⌜ r ≡ secondBy x mixed (now (work .entry)) j ⌝ }
+{
+    let mut values = mixed;
+    if x.second_stereo {
+        let sb = j % 32;
+        if sb < x.limit {
+            let channels = x.channels;
+            let main = x.main;
+            values[channels - 2] = work[1152 * main + j];
+            values[channels - 1] = work[1152 * (main + 1) + j];
+        }
+    }
+    values
+}
+
+// Stores the values at place j of the five channels; +0 beyond the layout.
+fn store(x: Mix, values: [f64; 5], j: usize, output: &mut [f64])
+    requires { ⌜ (j < 1152) × (length (now output) ≡ 5760) ⌝ }
+    ensures { λ _. ⌜ now (output .exit) ≡ across (channelBy x values) j (now (output .entry)) ⌝ }
+{
+    for ch in 0usize..5 {
+        let mut value = 0.0;
+        if ch < x.channels {
+            value = values[ch];
+        }
+        output[j + 1152 * ch] = value;
+    }
+}
+
+// All slots and subbands, from both base channels and work.
+fn write_mixed(
+    x: Mix,
+    tcs: &[u8; 32],
+    left: &[f64],
+    right: &[f64],
+    work: &[f64],
+    output: &mut [f64],
+)
+    requires { ⌜ (length (now left) ≡ 1152) × (length (now right) ≡ 1152) × (length (now work) ≡ 3456) × (length (now output) ≡ 5760) × SecondFits x ⌝ }
+    ensures { λ _. ⌜ now (output .exit) ≡ outputBy x (now (tcs .entry)) (now (left .entry)) (now (right .entry)) (now (work .entry)) ⌝ }
+{
+    for j in 0usize..1152 {
+        let mixed = mixed_at(x, tcs[j % 32], left, right, work, j);
+        store(x, with_second(x, mixed, work, j), j, output);
+    }
+}
+
+// Writes the whole output, channel, slot and subband at (36 * channel + slot) * 32 + subband.
+pub fn write_output<'a>(
+    s: McSettings,
+    left: &'a [f64],
+    right: &'a [f64],
+    work: &[f64],
+    output: &mut [f64],
+)
+    requires { ⌜ (length (now left) ≡ 1152) × (length (now right) ≡ cond (eqb (s .«base_channels») 1) 0 1152) × (length (now work) ≡ 3456) × (length (now output) ≡ 5760) ⌝ }
+    ensures { λ _. ⌜ now (output .exit) ≡ outputOf s (scaledBase (now (left .entry)) (now (right .entry))) (now (work .entry)) ⌝ }
+{
+    let status = s.status;
+    let tc = status.tc_allocation;
+    let tcs = tcs_of(&tc);
+    let second = second_base(s.base_channels, left, right);
+    write_mixed(mix_of(s), &tcs, left, second, work, output);
+}
+
+// One value of the history: base channel, subband and slot by its place.
+fn history_at(left: &[f64], right: &[f64], i: usize) -> f64
+    requires { ⌜ (length (now left) ≡ 1152) × (length (now right) ≡ 1152) × (i < 576) ⌝ }
+    ensures { λ r. ⌜ r ≡ historyBy (now (left .entry)) (now (right .entry)) i ⌝ }
+{
+    let at = 32 * (27 + i % 9) + i % 288 / 9;
+    if i / 288 == 0 {
+        return left[at];
+    }
+    right[at]
+}
+
+// The last nine slots of both base channels, oldest first, for the next frame's prediction; one base channel in both places.
+pub fn history<'a>(s: McSettings, left: &'a [f64], right: &'a [f64]) -> [f64; 576]
+    requires { ⌜ (length (now left) ≡ 1152) × (length (now right) ≡ cond (eqb (s .«base_channels») 1) 0 1152) ⌝ }
+    ensures { λ r. ⌜ r ≡ historyOf s (scaledBase (now (left .entry)) (now (right .entry))) ⌝ }
+{
+    let second = second_base(s.base_channels, left, right);
+    let mut values = [0.0f64; 576];
+    for i in 0usize..576 {
+        values[i] = history_at(left, second, i);
+    }
+    values
+}

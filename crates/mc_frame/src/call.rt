@@ -1,0 +1,55 @@
+// The frame call on a state that is lent: the state is updated in place.
+ghost use mathlib.Core.Path.{_≡_};
+ghost use Rattle.mc_finish.specs.Finish.{baseFrom};
+ghost use Rattle.mc_frame.specs.Answer.{lentOf, buffersFrom, afterBy};
+ghost use Rattle.mc_frame.specs.Frame.{frameOf};
+use crate::McAnswer;
+use crate::McDecodeState;
+use crate::frame::frame;
+
+// One frame, as `frame`; after a refusal the state and all buffers are as they were, but refusal 5 has stored the history.
+pub fn decode_mc_frame<'s, 'h, 'p, 'a, 'b, 'n, 'r, 'w, 'o, 'l>(
+    state: &'s mut McDecodeState,
+    head: &'h [u8],
+    head_bits: usize,
+    payload: &'p [u8],
+    payload_bits: usize,
+    rate: u32,
+    base_channels: u8,
+    raw_left: &'a [f64],
+    raw_right: &'a [f64],
+    scaled_left: &'a [f64],
+    scaled_right: &'a [f64],
+    base_nb_steps: &'b [u32],
+    lfe_allocation: u8,
+    nb_steps: &'n [u32],
+    raw: &'r mut [f64],
+    work: &'w mut [f64],
+    output: &'o mut [f64],
+    lfe: &'l mut [f64],
+) -> McAnswer
+    ensures { λ r. ⌜ afterBy r (now (state .exit)) (buffersFrom (now (raw .exit)) (now (work .exit)) (now (output .exit)) (now (lfe .exit))) ≡ frameOf (lentOf (now (head .entry)) «head_bits» (now (payload .entry)) «payload_bits» rate «base_channels» (baseFrom (now («raw_left» .entry)) (now («raw_right» .entry)) (now («scaled_left» .entry)) (now («scaled_right» .entry))) (now («base_nb_steps» .entry)) «lfe_allocation» (now («nb_steps» .entry))) (buffersFrom (now (raw .entry)) (now (work .entry)) (now (output .entry)) (now (lfe .entry))) (now (state .entry)) ⌝ }
+{
+    let t = frame(
+        *state,
+        head,
+        head_bits,
+        payload,
+        payload_bits,
+        rate,
+        base_channels,
+        raw_left,
+        raw_right,
+        scaled_left,
+        scaled_right,
+        base_nb_steps,
+        lfe_allocation,
+        nb_steps,
+        raw,
+        work,
+        output,
+        lfe,
+    );
+    *state = t.state;
+    t.answer
+}

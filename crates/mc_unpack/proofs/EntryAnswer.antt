@@ -1,0 +1,148 @@
+-- From what was decided to what `unpack` answers and leaves, and to what the writers require.
+use mathlib.Core.Path.{_≡_, refl, sym, ap, _∙_}
+use mathlib.Core.Bool.{Bool, true, false, _&&_, cond}
+use mathlib.Core.List.{List}
+use mathlib.Core.Logic.{_⊎_, inl, inr, ⊎-elim}
+use Prim.Native.Nat.{ℕ, _≤_, _<_}
+use native.Mathlib.Omega.{arith}
+use lib.Dec.{eqb}
+use lib.Ieee.{Float}
+use lib.ListN.{length, getD}
+use borrow.Author.Tests.{eq-eqb, ne-eqb, eqb-true}
+use Rattle.bits.specs.Syntax.{Refusal, plain, Outcome, refused, accepted, run}
+use Rattle.bits.specs.Yields.{refused-yields}
+use Rattle.mc_error.specs.Error.{refusalOf}
+use Rattle.mc_error.specs.declared.McError.{McError}
+use Rattle.mc_head.specs.Lent.{stringFits}
+use Rattle.mc_unpack.specs.declared.McSettings.{McSettings}
+use Rattle.mc_unpack.specs.declared.entry.McPayload.{McPayload}
+use Rattle.mc_unpack.specs.declared.entry.Unpacked.{Unpacked}
+use Rattle.mc_unpack.specs.declared.entry.UnpackAnswer.the-variants.{Accepted, Refused}
+use Rattle.mc_unpack.specs.Places.{ownOf}
+use Rattle.mc_unpack.specs.Payload.{Codes}
+use Rattle.mc_unpack.specs.PayloadYields.{payload-yields}
+use Rattle.mc_unpack.specs.Outcome.{codesOf, outcomeOf}
+use Rattle.mc_unpack.specs.RecordLaws.{raw-record, lfe-record}
+use Rattle.mc_unpack.specs.Unpack.{stepsFit, loanFits, payloadOf, allocationsFit, Loan, settingsOf, unpackOf}
+use Rattle.mc_unpack.specs.Answer.{noTables, valuesOf, afterOf, roomFits, checkedOf, unpackCall}
+use Rattle.mc_unpack.specs.Settled.{settledOf, Decided, Numbered}
+use Rattle.mc_unpack.specs.SettledLaws.{own-table, settled-writable}
+use Rattle.mc_unpack.specs.Values.{rawFrom, lfeFrom, SamplesFit, LfeFits}
+use Rattle.mc_unpack.specs.Demand3.Accepted.{unpack-accepts, lfe-low}
+
+-- ---- numbers of refusals
+
+same-number : (n m : ℕ) → _≡_ {A = Outcome Codes} (refused (plain n)) (refused (plain m)) → n ≡ m
+same-number n m e = let q : plain n ≡ plain m = cc in ap (λ (r : Refusal). r .number) q
+
+plain-number : (n m : ℕ) → plain n ≡ plain m → n ≡ m
+plain-number n m e = ap (λ (r : Refusal). r .number) e
+
+-- where one of two outcomes was taken, what holds of both holds
+either : (P : ℕ → Type 0) (t : Bool) (o o′ : Outcome Codes) (n : ℕ) → (o ≡ refused (plain n) → P n) → (o′ ≡ refused (plain n) → P n) → cond t o o′ ≡ refused (plain n) → P n
+either P true o o′ n f g e = f e
+either P false o o′ n f g e = g e
+
+run-numbered : (s : McSettings) (bytes : List ℕ) (bits n : ℕ) → run (payloadOf s) bytes bits 0 ≡ refused (plain n) → Numbered n
+unfolding payloadOf
+run-numbered s bytes bits n e =
+    ⊎-elim (λ q. inl (plain-number n 1 q))
+    (λ st. ⊎-elim (λ q. inr (inl (plain-number n 3 q))) (λ q. inr (inr (inl (plain-number n 4 q)))) st)
+    (refused-yields (payload-yields _ _ _ _ _) bytes bits 0 (plain n) e)
+
+checked-numbered : (l : Loan) (bytes : List ℕ) (bits raw lfe n : ℕ) → checkedOf l bytes bits raw lfe ≡ refused (plain n) → Numbered n
+unfolding checkedOf unpackOf
+checked-numbered l bytes bits raw lfe n =
+    let six : _≡_ {A = Outcome Codes} (refused (plain 6)) (refused (plain n)) → Numbered n = λ e. inr (inr (inr (inl (sym (same-number 6 n e))))) in
+    let eight : _≡_ {A = Outcome Codes} (refused (plain 8)) (refused (plain n)) → Numbered n = λ e. inr (inr (inr (inr (sym (same-number 8 n e))))) in
+    let s = settingsOf l in
+    let lent = stringFits bytes bits && loanFits (l .rate) (l .baseChannels) (l .lfe) (l .steps) (l .baseSteps) in
+    let six-of : Outcome Codes = refused (plain 6) in
+    let settled : Outcome Codes = cond (allocationsFit s) (run (payloadOf s) bytes bits 0) (refused (plain 8)) in
+    either Numbered (roomFits raw lfe) (cond lent settled six-of) six-of n
+    (either Numbered lent settled six-of n (either Numbered (allocationsFit s) (run (payloadOf s) bytes bits 0) (refused (plain 8)) n (run-numbered s bytes bits n) eight) six)
+    six
+
+-- the one that is left
+pub number-rest : (n : ℕ) → Numbered n → (n ≡ 1 → ⊥) → (n ≡ 3 → ⊥) → (n ≡ 4 → ⊥) → (n ≡ 8 → ⊥) → n ≡ 6
+number-rest n h n₁ n₃ n₄ n₈ =
+    ⊎-elim (λ e. absurd (n₁ e)) (λ h. ⊎-elim (λ e. absurd (n₃ e)) (λ h. ⊎-elim (λ e. absurd (n₄ e)) (λ h. ⊎-elim (λ e. e) (λ e. absurd (n₈ e)) h) h) h) h
+
+-- ---- what the writers require
+
+pub record Ready (l : Loan) (rawLength lfeLength : ℕ) (p : McPayload) : Type 0 where
+  pub raw : rawLength ≡ 3456
+  pub lfe : lfeLength ≡ 12
+  pub steps : (i : ℕ) → i < 96 → stepsFit (getD (p .places .own) i 0) ≡ true
+  pub samples : SamplesFit (p .places .own) (p .codes .granules)
+  pub low : l .lfe ≤ 15
+  pub factor : p .codes .«lf_scalefactor» < 63
+  pub codes : LfeFits (l .lfe) (p .codes .granules)
+
+-- what was tested before acceptance holds
+taken : (t : Bool) (o : Outcome Codes) (x : Refusal) (c : Codes) (u : ℕ) → cond t o (refused x) ≡ accepted c u → (t ≡ true) × (o ≡ accepted c u)
+taken true o x c u e = (refl, e)
+taken false o x c u e = let z : _≡_ {A = ℕ} 0 1 = cc in absurd (omega arith)
+
+and-true : (s t : Bool) → (s && t) ≡ true → (s ≡ true) × (t ≡ true)
+and-true true t e = (refl, e)
+and-true false t e = let z : _≡_ {A = ℕ} 0 1 = cc in absurd (omega arith)
+
+-- ---- refused
+
+module _ (l : Loan) (bytes : List ℕ) (bits : ℕ) (raw lfe : List Float) (p : McPayload) (d : Decided l bytes bits (length raw) (length lfe) p) where
+  module _ (z : p .codes .cursor .err ≡ 0 → ⊥) where
+    refused-checked : checkedOf l bytes bits (length raw) (length lfe) ≡ refused (plain (p .codes .cursor .err))
+    unfolding outcomeOf
+    refused-checked = sym (d .outcome) ∙ rw (ne-eqb (p .codes .cursor .err) 0 z)
+
+    pub refused-number : Numbered (p .codes .cursor .err)
+    refused-number = checked-numbered l bytes bits (length raw) (length lfe) (p .codes .cursor .err) refused-checked
+
+    pub refused-after : (e : McError) → refusalOf e ≡ plain (p .codes .cursor .err) → (r : Unpacked) → (r .answer ≡ Refused e) × (valuesOf r ≡ noTables)
+        → afterOf r raw lfe ≡ unpackCall l bytes bits raw lfe
+    unfolding unpackCall
+    refused-after e ee r er = rw (refused-checked, er .0, er .1, ee)
+
+  -- ---- accepted
+
+  module _ (z : p .codes .cursor .err ≡ 0) where
+    accepted-checked : checkedOf l bytes bits (length raw) (length lfe) ≡ accepted (codesOf (p .codes)) (p .codes .cursor .at)
+    unfolding outcomeOf
+    accepted-checked = sym (d .outcome) ∙ rw (eq-eqb (p .codes .cursor .err) 0 z)
+
+    own-settings : p .places .own ≡ ownOf (settingsOf l)
+    own-settings = own-table (settingsOf l) (p .places) (d .places z)
+
+    room : (length raw ≡ 3456) × ((length lfe ≡ 12) × (unpackOf l bytes bits ≡ accepted (codesOf (p .codes)) (p .codes .cursor .at)))
+    unfolding checkedOf
+    room =
+        let t = taken (roomFits (length raw) (length lfe)) _ _ _ _ accepted-checked in
+        let h = and-true (eqb (length raw) 3456) (eqb (length lfe) 12) (t .0) in
+        (eqb-true (length raw) 3456 (h .0), (eqb-true (length lfe) 12 (h .1), t .1))
+
+    settled : settledOf (settingsOf l) bytes bits ≡ accepted (codesOf (p .codes)) (p .codes .cursor .at)
+    unfolding settledOf
+    settled = let a = unpack-accepts l bytes bits _ _ (room .1 .1) in rw (a .allocated) (a .ran)
+
+    pub writers-ready : Ready l (length raw) (length lfe) p
+    unfolding settingsOf
+    writers-ready =
+        let w = settled-writable (settingsOf l) bytes bits _ _ settled in
+        record {
+          raw = room .0;
+          lfe = room .1 .0;
+          steps = rw own-settings (w .steps);
+          samples = rw own-settings (w .samples);
+          low = lfe-low l (unpack-accepts l bytes bits _ _ (room .1 .1) .lent);
+          factor = w .lfFactor;
+          codes = w .lfe;
+        }
+
+    pub accepted-after : (raw′ lfe′ : List Float) → raw′ ≡ rawFrom (p .places .own) (p .codes .granules)
+        → lfe′ ≡ lfeFrom (l .lfe) (p .codes .«lf_scalefactor») (p .codes .granules)
+        → afterOf (record { answer = Accepted (p .codes .cursor .at); scfsi = p .codes .scfsi; predictors = p .codes .predictors; «lf_scalefactor» = p .codes .«lf_scalefactor»; scalefactors = p .codes .scalefactors }) raw′ lfe′
+        ≡ unpackCall l bytes bits raw lfe
+    unfolding unpackCall settingsOf
+    accepted-after raw′ lfe′ er el =
+        rw (accepted-checked, er, el, own-settings, raw-record (settingsOf l) (codesOf (p .codes)), lfe-record (l .lfe) (codesOf (p .codes)))

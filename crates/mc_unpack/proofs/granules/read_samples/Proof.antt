@@ -1,0 +1,97 @@
+-- `granules::read_samples` meets its contract.
+use native.Mathlib.Omega.{arith}
+use lib.ListN.{length-set}
+use borrow.Author.Needs.{needs}
+use Rattle.bits.specs.CursorLaws.{cur-fits}
+use Rattle.mc_unpack.proofs.GranulesRead.{group-ran, three-ran}
+use Rattle.mc_unpack.proofs.granules.read_samples.Statement.{statement}
+use Rattle.mc_unpack.proofs.granules.read_samples.Tie as tie
+
+read-requires : tie.Need-read-requires
+read-requires c κs = search needs
+
+cast-codes : tie.Need-cast-codes
+cast-codes c = search cur-fits
+
+mul-codes : tie.Need-mul-codes
+mul-codes c = search needs
+
+slice-write-codes : tie.Need-slice-write-codes
+slice-write-codes c = search needs
+
+same-length : tie.Need-same-length
+same-length c = search needs
+
+returns : tie.Need-returns
+returns c = search group-ran
+
+read-requires-2 : tie.Need-read-requires-2
+read-requires-2 c κs = search needs
+
+read-requires-3 : tie.Need-read-requires-3
+read-requires-3 c κs = search needs
+
+cast-codes-2 : tie.Need-cast-codes-2
+cast-codes-2 c = search cur-fits
+
+mul-codes-2 : tie.Need-mul-codes-2
+mul-codes-2 c = search needs
+
+slice-write-codes-2 : tie.Need-slice-write-codes-2
+slice-write-codes-2 c = search needs
+
+cast-codes-3 : tie.Need-cast-codes-3
+cast-codes-3 c = search cur-fits
+
+add-codes : tie.Need-add-codes
+add-codes c = search needs
+
+mul-codes-3 : tie.Need-mul-codes-3
+mul-codes-3 c = search needs
+
+slice-write-codes-3 : tie.Need-slice-write-codes-3
+slice-write-codes-3 c = simp length-set (omega (arith, c .before .before .before .before .before .before .before .before .pre))
+
+cast-codes-4 : tie.Need-cast-codes-4
+cast-codes-4 c = search cur-fits
+
+add-codes-2 : tie.Need-add-codes-2
+add-codes-2 c = omega (arith, c .before .before .before .before .before .before .before .before .before .pre, c .before .before .before .before .before .before .before .before .before .good)
+
+mul-codes-4 : tie.Need-mul-codes-4
+mul-codes-4 c = omega (arith, c .before .before .before .before .before .before .before .before .before .pre, c .before .before .before .before .before .before .before .before .before .good)
+
+slice-write-codes-4 : tie.Need-slice-write-codes-4
+slice-write-codes-4 c = search needs
+
+same-length-2 : tie.Need-same-length-2
+same-length-2 c = search needs
+
+returns-2 : tie.Need-returns-2
+returns-2 c = search three-ran
+
+pub read-samples-spec : {M : Type 1} → statement M
+read-samples-spec =
+    tie.close
+    (tie.spec
+    read-requires
+    cast-codes
+    mul-codes
+    slice-write-codes
+    same-length
+    returns
+    read-requires-2
+    read-requires-3
+    cast-codes-2
+    mul-codes-2
+    slice-write-codes-2
+    cast-codes-3
+    add-codes
+    mul-codes-3
+    slice-write-codes-3
+    cast-codes-4
+    add-codes-2
+    mul-codes-4
+    slice-write-codes-4
+    same-length-2
+    returns-2)

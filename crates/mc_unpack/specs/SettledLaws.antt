@@ -1,0 +1,74 @@
+-- Each way to decide of a payload says what the definition says, and what an accepted payload is fit for.
+use mathlib.Core.Path.{_≡_, refl, sym, ap}
+use mathlib.Core.Bool.{Bool, true, false, not, cond}
+use mathlib.Core.List.{List}
+use Prim.Native.Nat.{ℕ, _/_, _%_, _<_}
+use native.Mathlib.Omega.{arith}
+use lib.Dec.{eqb}
+use lib.ListN.{getD}
+use borrow.Author.Tests.{eqb-false, not-true, not-false}
+use Rattle.bits.specs.Syntax.{Refusal, plain, Outcome, accepted, refused, run}
+use Rattle.bits.specs.Yields.{accepted-yields}
+use Rattle.mc_unpack.specs.declared.McSettings.{McSettings}
+use Rattle.mc_unpack.specs.declared.payload.PayloadCodes.{PayloadCodes}
+use Rattle.mc_unpack.specs.declared.places.Places.{Places}
+use Rattle.mc_unpack.specs.Places.{ownAt, stepsOf, ownOf}
+use Rattle.mc_unpack.specs.PlacesBy.{placesOf}
+use Rattle.mc_unpack.specs.Payload.{Codes, payload}
+use Rattle.mc_unpack.specs.PayloadYields.{FactorsBelow, payload-yields}
+use Rattle.mc_unpack.specs.Outcome.{outcomeOf}
+use Rattle.mc_unpack.specs.RecordLaws.{samples-fit, lfe-fits}
+use Rattle.mc_unpack.specs.Unpack.{stepsFit, allocationsFit, payloadOf}
+use Rattle.mc_unpack.specs.Values.{SamplesFit, LfeFits}
+use Rattle.mc_unpack.specs.Settled.{settledOf}
+use Rattle.mc_unpack.specs.Demand3.Accepted.{own-at, own-class}
+use Rattle.mc_unpack.specs.Demand3.Widths.{Fitting, codes-fit}
+
+module _ (s : McSettings) (p : Places) (e : p ≡ placesOf s) where
+  pub own-table : p .own ≡ ownOf s
+  unfolding placesOf
+  own-table = ap (λ (q : Places). q .own) e
+
+  steps-table : p .steps ≡ stepsOf s
+  unfolding placesOf
+  steps-table = ap (λ (q : Places). q .steps) e
+
+  module _ (bytes : List ℕ) (bits : ℕ) (codes : PayloadCodes) (b : Bool) (eb : b ≡ allocationsFit s) where
+    pub settled-refused : not b ≡ true → codes .cursor .err ≡ 8 → outcomeOf codes ≡ settledOf s bytes bits
+    unfolding outcomeOf settledOf
+    settled-refused t z = rw (z, ← eb, not-true b t)
+
+    pub settled-read : not b ≡ false
+        → run (payload (s .header .«multi_lingual_layer3») (s .«lfe_allocation») (s .status .«mc_prediction») (p .steps) (p .own)) bytes bits 0 ≡ outcomeOf codes
+        → outcomeOf codes ≡ settledOf s bytes bits
+    unfolding settledOf payloadOf
+    settled-read t r = rw (← eb, not-false b t, ← own-table, ← steps-table) (sym r)
+
+-- ---- accepted
+
+-- what writing the samples of a payload asks, and scaling them
+pub record Writable (s : McSettings) (c : Codes) : Type 0 where
+  pub steps : (i : ℕ) → i < 96 → stepsFit (getD (ownOf s) i 0) ≡ true
+  pub samples : SamplesFit (ownOf s) (c .1 .1 .1 .1)
+  pub lfe : LfeFits (s .«lfe_allocation») (c .1 .1 .1 .1)
+  pub lfFactor : c .1 .1 .0 < 63
+  pub factors : FactorsBelow (c .1 .1 .1 .0)
+
+taken : (t : Bool) (o : Outcome Codes) (x : Refusal) (c : Codes) (u : ℕ) → cond t o (refused x) ≡ accepted c u → (t ≡ true) × (o ≡ accepted c u)
+taken true o x c u e = (refl, e)
+taken false o x c u e = let z : _≡_ {A = ℕ} 0 1 = cc in absurd (omega arith)
+
+own-steps : (s : McSettings) → allocationsFit s ≡ true → (i : ℕ) → i < 96 → stepsFit (getD (ownOf s) i 0) ≡ true
+own-steps s a i h = rw (own-at s i h) (go (eqb (ownAt s (i % 3) (i / 3)) 0) refl)
+  where
+    go : (t : Bool) → eqb (ownAt s (i % 3) (i / 3)) 0 ≡ t → stepsFit (ownAt s (i % 3) (i / 3)) ≡ true
+    go true e = rw e
+    go false e = rw e (own-class s (i % 3) (i / 3) a (omega arith) (omega arith) (eqb-false _ 0 e))
+
+pub settled-writable : (s : McSettings) (bytes : List ℕ) (bits : ℕ) (c : Codes) (u : ℕ) → settledOf s bytes bits ≡ accepted c u → Writable s c
+unfolding settledOf payloadOf
+settled-writable s bytes bits c u e =
+    let t = taken (allocationsFit s) (run (payloadOf s) bytes bits 0) (plain 8) c u e in
+    let f : Fitting s c = accepted-yields (codes-fit s) bytes bits 0 c u (t .1) in
+    let b = accepted-yields (payload-yields _ _ _ _ _) bytes bits 0 c u (t .1) in
+    record { steps = own-steps s (t .0); samples = samples-fit _ _ _ _ c f; lfe = lfe-fits _ _ _ _ c f; lfFactor = b .0; factors = b .1 }

@@ -1,0 +1,229 @@
+// The unpacking call: one function decides, on what is lent and not written, and only then are the buffers written.
+ghost use mathlib.Core.Path.{_≡_};
+ghost use Prim.Native.Nat.{_≤_};
+ghost use lib.ListN.{length, replicate};
+ghost use Rattle.bits.specs.Syntax.{plain, refused};
+ghost use Rattle.mc_error.specs.Error.{refusalOf};
+ghost use Rattle.mc_unpack.specs.Outcome.{outcomeOf};
+ghost use Rattle.mc_unpack.specs.Unpack.{settingsOf};
+ghost use Rattle.mc_unpack.specs.PlacesBy.{placesOf};
+ghost use Rattle.mc_unpack.specs.Answer.{loanBy, noTables, valuesOf, afterOf, checkedOf, unpackCall};
+ghost use Rattle.mc_unpack.specs.Settled.{settledOf, Decided, Numbered};
+use crate::McSettings;
+use crate::allocations::allocations_fit;
+use crate::loan::loan_fits;
+use crate::loan::settings;
+use crate::payload::PayloadCodes;
+use crate::payload::read_payload;
+use crate::places::Places;
+use crate::places::places_of;
+use crate::samples::write_lfe;
+use crate::samples::write_raw;
+use bits::Cursor;
+use mc_config::McHeader;
+use mc_error::McError;
+use mc_head::McStatus;
+
+// The bits that the payload uses, or why it is refused.
+pub enum UnpackAnswer {
+    Accepted(usize),
+    Refused(McError),
+}
+
+// The record's tables stand beside the answer; after a refusal all are zero. Delays and coefficients are made of `predictors` by `delays`
+// and `coefs`, which return arrays of arrays: these stand in no struct.
+pub struct Unpacked {
+    pub answer: UnpackAnswer,
+    pub scfsi: [u8; 96],
+    pub predictors: [u8; 192],
+    pub lf_scalefactor: u8,
+    pub scalefactors: [u8; 288],
+}
+
+impl Unpacked {
+    fn refused(e: McError) -> Unpacked
+        ensures { λ r. ⌜ (r .answer ≡ UnpackAnswer.Refused e) × (valuesOf r ≡ noTables) ⌝ }
+    {
+        Unpacked {
+            answer: UnpackAnswer::Refused(e),
+            scfsi: [0; 96],
+            predictors: [0; 192],
+            lf_scalefactor: 0,
+            scalefactors: [0; 288],
+        }
+    }
+}
+
+// A payload as decided: the places that it was read for, and its codes or its refusal.
+pub struct McPayload {
+    pub places: Places,
+    pub codes: PayloadCodes,
+}
+
+impl McPayload {
+    fn refused(number: u32) -> McPayload
+        ensures { λ r. ⌜ r .codes .cursor .err ≡ number ⌝ }
+    {
+        McPayload {
+            places: Places {
+                steps: [0; 96],
+                own: [0; 96],
+                source: [0; 96],
+                base: [0; 96],
+            },
+            codes: no_codes(number),
+        }
+    }
+}
+
+// No codes, for the refusal of this number.
+fn no_codes(number: u32) -> PayloadCodes
+    ensures { λ r. ⌜ r .cursor .err ≡ number ⌝ }
+{
+    PayloadCodes {
+        cursor: Cursor {
+            err: number,
+            at: 0,
+            value: 0,
+        },
+        scfsi: [0; 96],
+        predictors: [0; 192],
+        lf_scalefactor: 0,
+        scalefactors: [0; 288],
+        granules: [0; 3468],
+    }
+}
+
+// The allocations are tested, then the payload is read.
+pub fn read_mc_payload(bytes: &[u8], bits: usize, s: McSettings) -> McPayload
+    requires { ⌜ s .«lfe_allocation» ≤ 15 ⌝ }
+    ensures { λ r. ⌜ (outcomeOf (r .codes) ≡ settledOf s (now (bytes .entry)) bits) × (r .places ≡ placesOf s) ⌝ }
+{
+    let places = places_of(s);
+    let own = places.own;
+    if !allocations_fit(s, &own) {
+        return McPayload {
+            places,
+            codes: no_codes(8),
+        };
+    }
+    let steps = places.steps;
+    let header = s.header;
+    let status = s.status;
+    let predsi = status.mc_prediction;
+    let codes = read_payload(
+        bytes,
+        bits,
+        header.multi_lingual_layer3,
+        s.lfe_allocation,
+        &predsi,
+        &steps,
+        &own,
+    );
+    McPayload { places, codes }
+}
+
+// Decides, with nothing written: the loan is tested, then the allocations, and then the payload is read.
+pub fn decide(
+    bytes: &[u8],
+    bits: usize,
+    rate: u32,
+    base_channels: u8,
+    header: McHeader,
+    status: McStatus,
+    lfe_allocation: u8,
+    nb_steps: &[u32],
+    base_nb_steps: &[u32],
+    raw_len: usize,
+    lfe_len: usize,
+) -> McPayload
+    ensures { λ r. ⌜ Decided (loanBy rate «base_channels» header status «lfe_allocation» (now («nb_steps» .entry)) (now («base_nb_steps» .entry))) (now (bytes .entry)) bits «raw_len» «lfe_len» r ⌝ }
+{
+    if raw_len != 3456 {
+        return McPayload::refused(6);
+    }
+    if lfe_len != 12 {
+        return McPayload::refused(6);
+    }
+    if !mc_head::string_fits(bytes, bits) {
+        return McPayload::refused(6);
+    }
+    if !loan_fits(rate, base_channels, lfe_allocation, nb_steps, base_nb_steps) {
+        return McPayload::refused(6);
+    }
+    let s = settings(
+        rate,
+        base_channels,
+        header,
+        status,
+        lfe_allocation,
+        nb_steps,
+        base_nb_steps,
+    );
+    read_mc_payload(bytes, bits, s)
+}
+
+// The refusal of a number.
+pub fn error_of(number: u32) -> McError
+    requires { ⌜ Numbered number ⌝ }
+    ensures { λ r. ⌜ refusalOf r ≡ plain number ⌝ }
+{
+    match number {
+        1 => McError::UnexpectedEnd,
+        3 => McError::MlLayer3Unsupported,
+        4 => McError::ReservedScalefactor,
+        8 => McError::InvalidAllocation,
+        _ => McError::InvalidArgument,
+    }
+}
+
+// Unpacks the payload in the first `bits` bits into `raw` and `lfe`. Both are as they were after any refusal.
+pub fn unpack(
+    bytes: &[u8],
+    bits: usize,
+    rate: u32,
+    base_channels: u8,
+    header: McHeader,
+    status: McStatus,
+    lfe_allocation: u8,
+    nb_steps: &[u32],
+    base_nb_steps: &[u32],
+    raw: &mut [f64],
+    lfe: &mut [f64],
+) -> Unpacked
+    ensures { λ r. ⌜ afterOf r (now (raw .exit)) (now (lfe .exit)) ≡ unpackCall (loanBy rate «base_channels» header status «lfe_allocation» (now («nb_steps» .entry)) (now («base_nb_steps» .entry))) (now (bytes .entry)) bits (now (raw .entry)) (now (lfe .entry)) ⌝ }
+{
+    let payload = decide(
+        bytes,
+        bits,
+        rate,
+        base_channels,
+        header,
+        status,
+        lfe_allocation,
+        nb_steps,
+        base_nb_steps,
+        raw.len(),
+        lfe.len(),
+    );
+    let codes = payload.codes;
+    let cursor = codes.cursor;
+    if cursor.err != 0 {
+        return Unpacked::refused(error_of(cursor.err));
+    }
+    let places = payload.places;
+    let own = places.own;
+    let granules = codes.granules;
+    write_raw(&own, &granules, raw);
+    write_lfe(lfe_allocation, codes.lf_scalefactor, &granules, lfe);
+    let scfsi = codes.scfsi;
+    let predictors = codes.predictors;
+    let scalefactors = codes.scalefactors;
+    Unpacked {
+        answer: UnpackAnswer::Accepted(cursor.at),
+        scfsi,
+        predictors,
+        lf_scalefactor: codes.lf_scalefactor,
+        scalefactors,
+    }
+}

@@ -1,0 +1,149 @@
+// LFE and sample codes of the twelve granules (ISO/IEC 13818-3, 2.5.1.17).
+ghost use mathlib.Core.Path.{_≡_};
+ghost use Prim.Native.Nat.{_+_, _≤_, _<_};
+ghost use lib.ListN.{length};
+ghost use Rattle.bits.specs.Ran.{Ran};
+ghost use Rattle.bitalloc.specs.Classes.{grouped, bitsPerCodeword};
+ghost use Rattle.mc_unpack.specs.Payload.{granuleAt, granules};
+ghost use Rattle.mc_unpack.specs.Parts.{samplesBy, widthsOf, groupsOf};
+use crate::payload::width_if;
+use bitalloc::ClassLookup;
+use bits::Cursor;
+
+// The bits of a place's codes, and whether each is a group code.
+struct Codeword {
+    bits: u8,
+    grouped: bool,
+}
+
+fn codeword_of(nb_steps: u32) -> Codeword
+    ensures { λ r. ⌜ (r .bits ≡ bitsPerCodeword «nb_steps») × (r .grouped ≡ grouped «nb_steps») ⌝ }
+{
+    match bitalloc::class_of_quantization(nb_steps) {
+        ClassLookup::Found(class) => Codeword {
+            bits: class.bits_per_codeword as u8,
+            grouped: class.grouping,
+        },
+        ClassLookup::Unknown => Codeword {
+            bits: 0,
+            grouped: false,
+        },
+    }
+}
+
+struct Codewords {
+    bits: [u8; 96],
+    grouped: [bool; 96],
+}
+
+fn codewords_of(own: &[u32; 96]) -> Codewords
+    ensures { λ r. ⌜ (r .bits ≡ widthsOf (now (own .entry))) × (r .grouped ≡ groupsOf (now (own .entry))) ⌝ }
+{
+    let mut bits = [0u8; 96];
+    let mut grouped = [false; 96];
+    for i in 0usize..96 {
+        let codeword = codeword_of(own[i]);
+        bits[i] = codeword.bits;
+        grouped[i] = codeword.grouped;
+    }
+    Codewords { bits, grouped }
+}
+
+// The samples of a place in a granule: one group code, or three codes, from the index j on.
+fn read_samples(
+    bytes: &[u8],
+    limit: usize,
+    c: Cursor,
+    grouped: bool,
+    n: u8,
+    j: usize,
+    codes: &mut [u16],
+) -> Cursor
+    requires { ⌜ (n ≤ 16) × (j + 2 < length (now codes)) ⌝ }
+    ensures { λ r. ⌜ Ran (now (bytes .entry)) limit c (samplesBy grouped n j (now (codes .entry))) r (now (codes .exit)) ⌝ }
+{
+    let width = n as usize;
+    let x = bits::read(bytes, limit, c, width);
+    if grouped {
+        codes[j] = x.value as u16;
+        return x;
+    }
+    let y = bits::read(bytes, limit, x, width);
+    let z = bits::read(bytes, limit, y, width);
+    codes[j] = x.value as u16;
+    codes[j + 1] = y.value as u16;
+    codes[j + 2] = z.value as u16;
+    z
+}
+
+// A granule: the LFE code, then the samples of each place.
+fn read_granule(
+    bytes: &[u8],
+    limit: usize,
+    c: Cursor,
+    gr: usize,
+    lfe: u8,
+    own: &[u32; 96],
+    widths: &[u8; 96],
+    groups: &[bool; 96],
+    codes: &mut [u16],
+) -> Cursor
+    requires { ⌜ (gr < 12) × (lfe ≤ 15) × (length (now codes) ≡ 3468) ⌝ }
+    requires { ⌜ (now widths ≡ widthsOf (now own)) × (now groups ≡ groupsOf (now own)) ⌝ }
+    ensures { λ r. ⌜ Ran (now (bytes .entry)) limit c (granuleAt lfe (now (own .entry)) gr (now (codes .entry))) r (now (codes .exit)) ⌝ }
+{
+    let first = 289 * gr;
+    let mut cursor = bits::read(bytes, limit, c, width_if(0 < lfe, lfe as usize + 1));
+    codes[first] = cursor.value as u16;
+    for i in 0usize..96 {
+        if own[i] != 0 {
+            cursor = read_samples(
+                bytes,
+                limit,
+                cursor,
+                groups[i],
+                widths[i],
+                first + 1 + 3 * i,
+                codes,
+            );
+        }
+    }
+    cursor
+}
+
+// The cursor after the granules, and by granule an LFE code and three codes to a place; 0 where there is none.
+pub struct GranuleCodes {
+    pub cursor: Cursor,
+    pub codes: [u16; 3468],
+}
+
+pub fn read_granules(
+    bytes: &[u8],
+    limit: usize,
+    c: Cursor,
+    lfe: u8,
+    own: &[u32; 96],
+) -> GranuleCodes
+    requires { ⌜ lfe ≤ 15 ⌝ }
+    ensures { λ r. ⌜ Ran (now (bytes .entry)) limit c (granules lfe (now (own .entry))) (r .cursor) (r .codes) ⌝ }
+{
+    let codewords = codewords_of(own);
+    let widths = codewords.bits;
+    let groups = codewords.grouped;
+    let mut cursor = c;
+    let mut codes = [0u16; 3468];
+    for gr in 0usize..12 {
+        cursor = read_granule(
+            bytes,
+            limit,
+            cursor,
+            gr,
+            lfe,
+            own,
+            &widths,
+            &groups,
+            &mut codes,
+        );
+    }
+    GranuleCodes { cursor, codes }
+}
