@@ -36,8 +36,8 @@ typedef struct McDecodeState {
     uint32_t accepted;     /* accepted frames; stays at 4294967295 */
 } McDecodeState;
 
-/* Makes *state all zero, whatever it held. */
-void mc_fresh_state(McDecodeState *state);
+/* Makes *state all zero, whatever it held. Returns 0. */
+uint32_t mc_fresh_state(McDecodeState *state);
 
 /* Reads one frame.
  *

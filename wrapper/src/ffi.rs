@@ -10,7 +10,7 @@ pub struct McDecodeState {
 }
 
 unsafe extern "C" {
-    pub fn mc_fresh_state(state: *mut McDecodeState);
+    pub fn mc_fresh_state(state: *mut McDecodeState) -> u32;
 
     pub fn mc_decode_frame(
         state: *mut McDecodeState,

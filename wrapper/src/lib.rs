@@ -77,7 +77,9 @@ impl McState {
     /// Makes the state that of a new stream.
     pub fn reset(&mut self) {
         // SAFETY: the reference is to a whole state, with the layout that the library has.
-        unsafe { ffi::mc_fresh_state(&mut self.0) }
+        unsafe {
+            ffi::mc_fresh_state(&mut self.0);
+        }
     }
 
     /// The base's last nine scaled slots, at `(base * 32 + subband) * 9 + k`, oldest first.
