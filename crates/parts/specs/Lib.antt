@@ -1,0 +1,3 @@
+-- The definitions of the exported functions, and their laws.
+pub mod Parts
+pub mod PartsLaws
