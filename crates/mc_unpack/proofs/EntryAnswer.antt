@@ -9,59 +9,32 @@ use lib.Dec.{eqb}
 use lib.Ieee.{Float}
 use lib.ListN.{length, getD}
 use borrow.Author.Tests.{eq-eqb, ne-eqb, eqb-true}
-use Rattle.bits.specs.Syntax.{Refusal, plain, Outcome, refused, accepted, run}
-use Rattle.bits.specs.Yields.{refused-yields}
+use Rattle.bits.specs.Syntax.{Refusal, plain, Outcome, refused, accepted}
 use Rattle.mc_error.specs.Error.{refusalOf}
 use Rattle.mc_error.specs.declared.McError.{McError}
-use Rattle.mc_head.specs.Lent.{stringFits}
-use Rattle.mc_unpack.specs.declared.McSettings.{McSettings}
 use Rattle.mc_unpack.specs.declared.entry.McPayload.{McPayload}
 use Rattle.mc_unpack.specs.declared.entry.Unpacked.{Unpacked}
 use Rattle.mc_unpack.specs.declared.entry.UnpackAnswer.the-variants.{Accepted, Refused}
 use Rattle.mc_unpack.specs.Places.{ownOf}
 use Rattle.mc_unpack.specs.Payload.{Codes}
-use Rattle.mc_unpack.specs.PayloadYields.{payload-yields}
 use Rattle.mc_unpack.specs.Outcome.{codesOf, outcomeOf}
 use Rattle.mc_unpack.specs.RecordLaws.{raw-record, lfe-record}
-use Rattle.mc_unpack.specs.Unpack.{stepsFit, loanFits, payloadOf, allocationsFit, Loan, settingsOf, unpackOf}
-use Rattle.mc_unpack.specs.Answer.{noTables, valuesOf, afterOf, roomFits, checkedOf, unpackCall}
+use Rattle.mc_unpack.specs.Unpack.{stepsFit, Loan, settingsOf, unpackOf}
+use Rattle.mc_unpack.specs.Answer.{tablesOf, noTables, valuesOf, afterOf, roomFits, checkedOf, unpackCall}
 use Rattle.mc_unpack.specs.Settled.{settledOf, Decided, Numbered}
-use Rattle.mc_unpack.specs.SettledLaws.{own-table, settled-writable}
+use Rattle.mc_unpack.specs.SettledLaws.{own-table, unpack-numbered, settled-writable}
 use Rattle.mc_unpack.specs.Values.{rawFrom, lfeFrom, SamplesFit, LfeFits}
 use Rattle.mc_unpack.specs.Demand3.Accepted.{unpack-accepts, lfe-low}
 
 -- ---- numbers of refusals
 
-same-number : (n m : ℕ) → _≡_ {A = Outcome Codes} (refused (plain n)) (refused (plain m)) → n ≡ m
-same-number n m e = let q : plain n ≡ plain m = cc in ap (λ (r : Refusal). r .number) q
-
-plain-number : (n m : ℕ) → plain n ≡ plain m → n ≡ m
-plain-number n m e = ap (λ (r : Refusal). r .number) e
-
--- where one of two outcomes was taken, what holds of both holds
-either : (P : ℕ → Type 0) (t : Bool) (o o′ : Outcome Codes) (n : ℕ) → (o ≡ refused (plain n) → P n) → (o′ ≡ refused (plain n) → P n) → cond t o o′ ≡ refused (plain n) → P n
-either P true o o′ n f g e = f e
-either P false o o′ n f g e = g e
-
-run-numbered : (s : McSettings) (bytes : List ℕ) (bits n : ℕ) → run (payloadOf s) bytes bits 0 ≡ refused (plain n) → Numbered n
-unfolding payloadOf
-run-numbered s bytes bits n e =
-    ⊎-elim (λ q. inl (plain-number n 1 q))
-    (λ st. ⊎-elim (λ q. inr (inl (plain-number n 3 q))) (λ q. inr (inr (inl (plain-number n 4 q)))) st)
-    (refused-yields (payload-yields _ _ _ _ _) bytes bits 0 (plain n) e)
-
 checked-numbered : (l : Loan) (bytes : List ℕ) (bits raw lfe n : ℕ) → checkedOf l bytes bits raw lfe ≡ refused (plain n) → Numbered n
-unfolding checkedOf unpackOf
-checked-numbered l bytes bits raw lfe n =
-    let six : _≡_ {A = Outcome Codes} (refused (plain 6)) (refused (plain n)) → Numbered n = λ e. inr (inr (inr (inl (sym (same-number 6 n e))))) in
-    let eight : _≡_ {A = Outcome Codes} (refused (plain 8)) (refused (plain n)) → Numbered n = λ e. inr (inr (inr (inr (sym (same-number 8 n e))))) in
-    let s = settingsOf l in
-    let lent = stringFits bytes bits && loanFits (l .rate) (l .baseChannels) (l .lfe) (l .steps) (l .baseSteps) in
-    let six-of : Outcome Codes = refused (plain 6) in
-    let settled : Outcome Codes = cond (allocationsFit s) (run (payloadOf s) bytes bits 0) (refused (plain 8)) in
-    either Numbered (roomFits raw lfe) (cond lent settled six-of) six-of n
-    (either Numbered lent settled six-of n (either Numbered (allocationsFit s) (run (payloadOf s) bytes bits 0) (refused (plain 8)) n (run-numbered s bytes bits n) eight) six)
-    six
+unfolding checkedOf
+checked-numbered l bytes bits raw lfe n = go (roomFits raw lfe)
+  where
+    go : (t : Bool) → cond t (unpackOf l bytes bits) (refused (plain 6)) ≡ refused (plain n) → Numbered n
+    go true e = unpack-numbered l bytes bits n e
+    go false e = let q : plain 6 ≡ plain n = cc in inr (inr (inr (inl (sym (ap (λ (r : Refusal). r .number) q)))))
 
 -- the one that is left
 pub number-rest : (n : ℕ) → Numbered n → (n ≡ 1 → ⊥) → (n ≡ 3 → ⊥) → (n ≡ 4 → ⊥) → (n ≡ 8 → ⊥) → n ≡ 6
@@ -141,8 +114,8 @@ module _ (l : Loan) (bytes : List ℕ) (bits : ℕ) (raw lfe : List Float) (p : 
 
     pub accepted-after : (raw′ lfe′ : List Float) → raw′ ≡ rawFrom (p .places .own) (p .codes .granules)
         → lfe′ ≡ lfeFrom (l .lfe) (p .codes .«lf_scalefactor») (p .codes .granules)
-        → afterOf (record { answer = Accepted (p .codes .cursor .at); scfsi = p .codes .scfsi; predictors = p .codes .predictors; «lf_scalefactor» = p .codes .«lf_scalefactor»; scalefactors = p .codes .scalefactors }) raw′ lfe′
-        ≡ unpackCall l bytes bits raw lfe
+        → (r : Unpacked) → (r .answer ≡ Accepted (p .codes .cursor .at)) × (valuesOf r ≡ tablesOf (codesOf (p .codes)))
+        → afterOf r raw′ lfe′ ≡ unpackCall l bytes bits raw lfe
     unfolding unpackCall settingsOf
-    accepted-after raw′ lfe′ er el =
-        rw (accepted-checked, er, el, own-settings, raw-record (settingsOf l) (codesOf (p .codes)), lfe-record (l .lfe) (codesOf (p .codes)))
+    accepted-after raw′ lfe′ er el r e =
+        rw (accepted-checked, e .0, e .1, er, el, own-settings, raw-record (settingsOf l) (codesOf (p .codes)), lfe-record (l .lfe) (codesOf (p .codes)))

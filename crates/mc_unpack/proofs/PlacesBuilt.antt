@@ -1,11 +1,12 @@
 -- What the tests for a place say of its definitions: each way through `carried`, `source_by`, `steps_by` and `own_by`.
-use mathlib.Core.Path.{_≡_, _∙_}
-use mathlib.Core.Bool.{Bool, true, false}
+use mathlib.Core.Path.{_≡_, refl, _∙_}
+use mathlib.Core.Bool.{Bool, true, false, not}
 use mathlib.Core.List.{List}
 use Prim.Native.Nat.{ℕ, _+_, _*_, _/_, _%_, _≤_, _<_}
 use native.Mathlib.Omega.{arith}
 use lib.ListN.{length, getD, length-append, length-replicate}
-use borrow.Author.Tests.{lt-ltb, le-ltb, lt-leb, le-leb, eq-eqb, ne-eqb}
+use lib.Dec.{ltb, leb}
+use borrow.Author.Tests.{lt-ltb, le-ltb, leb-true, leb-false, eq-eqb, ne-eqb}
 use mir.Syntax.{w8}
 use mir.Val.{Fits}
 use Rattle.mc_config.specs.Crosstalk
@@ -23,6 +24,13 @@ use Rattle.mc_config.specs.declared.crosstalk.Sources.{Sources}
 use Rattle.mc_config.specs.declared.McConfig.{McConfig}
 use Rattle.mc_unpack.specs.PlacesBy.{carriedBy, sourceBy, groupSources, groupBases, groupAt, stepsBy, ownBy}
 use Rattle.mc_unpack.specs.PlacesLaws.{sources-below, bases-below}
+
+below-not : (sb : ℕ) → ltb sb 12 ≡ not (leb 12 sb)
+below-not sb = go (leb 12 sb) refl
+  where
+    go : (t : Bool) → leb 12 sb ≡ t → ltb sb 12 ≡ not (leb 12 sb)
+    go true e = rw (e, le-ltb sb 12 (leb-true 12 sb e))
+    go false e = rw (e, lt-ltb sb 12 (leb-false 12 sb e))
 
 module _ (nmch : ℕ) (phantom : Bool) (limit m sb : ℕ) where
   pub carried-beyond : nmch ≤ m → false ≡ carriedBy nmch phantom limit m sb
@@ -44,13 +52,9 @@ module _ (nmch : ℕ) (phantom : Bool) (limit m sb : ℕ) where
         unfolding carriedBy
         carried-other z = rw (lt-ltb m nmch h, lt-ltb sb limit k, p, ne-eqb m 0 z)
 
-        pub carried-barred : m ≡ 0 → 12 ≤ sb → false ≡ carriedBy nmch phantom limit m sb
+        pub carried-first : m ≡ 0 → ltb sb 12 ≡ carriedBy nmch phantom limit m sb
         unfolding carriedBy
-        carried-barred z l = rw (lt-ltb m nmch h, lt-ltb sb limit k, p, eq-eqb m 0 z, le-leb 12 sb l)
-
-        pub carried-below : m ≡ 0 → sb < 12 → true ≡ carriedBy nmch phantom limit m sb
-        unfolding carriedBy
-        carried-below z l = rw (lt-ltb m nmch h, lt-ltb sb limit k, p, eq-eqb m 0 z, lt-leb 12 sb l)
+        carried-first z = rw (lt-ltb m nmch h, lt-ltb sb limit k, p, eq-eqb m 0 z) (below-not sb)
 
 module _ (pair main mode second m : ℕ) (e : main ≡ mainOf pair) where
   pub main-fits : Fits w8 main

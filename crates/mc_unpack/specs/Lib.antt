@@ -1,17 +1,20 @@
+-- places, payload, record, and what unpacking answers
 pub mod Places
 pub mod Payload
-pub mod Parts
-pub mod Outcome
 pub mod Record
 pub mod Unpack
 pub mod Answer
-pub mod Settled
+-- the same by the tables that the code holds
 pub mod PlacesBy
+pub mod Parts
+pub mod Outcome
+pub mod Settled
+pub mod Values
+-- laws
 pub mod PlacesLaws
 pub mod AllocationsLaws
-pub mod Values
-pub mod ValuesLaws
 pub mod PayloadYields
+pub mod ValuesLaws
 pub mod RecordLaws
 pub mod SettledLaws
 pub mod Demand3

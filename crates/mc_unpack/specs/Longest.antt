@@ -1,11 +1,4 @@
 -- The longest payload: no accepted one uses more than 55,134 bits, and one uses so many.
-pub mod Bits
-pub mod Most
-pub mod Sums
-pub mod Zeros
-pub mod Bound
-pub mod Example
-pub mod Proof
 use mathlib.Core.Path.{_≡_}
 use mathlib.Core.Bool.{true, false, cond}
 use mathlib.Core.List.{List}
@@ -18,6 +11,13 @@ use Rattle.mc_config.specs.declared.McHeader.{McHeader}
 use Rattle.mc_head.specs.declared.McStatus.{McStatus}
 use Rattle.mc_unpack.specs.Payload.{Codes}
 use Rattle.mc_unpack.specs.Unpack.{Loan, unpackOf}
+pub mod Bits
+pub mod Most
+pub mod Sums
+pub mod Zeros
+pub mod Bound
+pub mod Example
+pub mod Proof
 
 -- the most bits that a payload uses
 abbrev pub longest : ℕ

@@ -1,14 +1,16 @@
 -- Each way to decide of a payload says what the definition says, and what an accepted payload is fit for.
 use mathlib.Core.Path.{_≡_, refl, sym, ap}
-use mathlib.Core.Bool.{Bool, true, false, not, cond}
+use mathlib.Core.Bool.{Bool, true, false, not, _&&_, cond}
 use mathlib.Core.List.{List}
+use mathlib.Core.Logic.{inl, inr, ⊎-elim}
 use Prim.Native.Nat.{ℕ, _/_, _%_, _<_}
 use native.Mathlib.Omega.{arith}
 use lib.Dec.{eqb}
 use lib.ListN.{getD}
 use borrow.Author.Tests.{eqb-false, not-true, not-false}
 use Rattle.bits.specs.Syntax.{Refusal, plain, Outcome, accepted, refused, run}
-use Rattle.bits.specs.Yields.{accepted-yields}
+use Rattle.bits.specs.Yields.{accepted-yields, refused-yields}
+use Rattle.mc_head.specs.Lent.{stringFits}
 use Rattle.mc_unpack.specs.declared.McSettings.{McSettings}
 use Rattle.mc_unpack.specs.declared.payload.PayloadCodes.{PayloadCodes}
 use Rattle.mc_unpack.specs.declared.places.Places.{Places}
@@ -18,9 +20,9 @@ use Rattle.mc_unpack.specs.Payload.{Codes, payload}
 use Rattle.mc_unpack.specs.PayloadYields.{FactorsBelow, payload-yields}
 use Rattle.mc_unpack.specs.Outcome.{outcomeOf}
 use Rattle.mc_unpack.specs.RecordLaws.{samples-fit, lfe-fits}
-use Rattle.mc_unpack.specs.Unpack.{stepsFit, allocationsFit, payloadOf}
+use Rattle.mc_unpack.specs.Unpack.{stepsFit, loanFits, allocationsFit, payloadOf, Loan, settingsOf, unpackOf}
 use Rattle.mc_unpack.specs.Values.{SamplesFit, LfeFits}
-use Rattle.mc_unpack.specs.Settled.{settledOf}
+use Rattle.mc_unpack.specs.Settled.{settledOf, Numbered}
 use Rattle.mc_unpack.specs.Demand3.Accepted.{own-at, own-class}
 use Rattle.mc_unpack.specs.Demand3.Widths.{Fitting, codes-fit}
 
@@ -43,6 +45,34 @@ module _ (s : McSettings) (p : Places) (e : p ≡ placesOf s) where
         → outcomeOf codes ≡ settledOf s bytes bits
     unfolding settledOf payloadOf
     settled-read t r = rw (← eb, not-false b t, ← own-table, ← steps-table) (sym r)
+
+-- ---- refused
+
+plain-number : (n m : ℕ) → plain n ≡ plain m → n ≡ m
+plain-number n m e = ap (λ (r : Refusal). r .number) e
+
+pub run-numbered : (s : McSettings) (bytes : List ℕ) (bits n : ℕ) → run (payloadOf s) bytes bits 0 ≡ refused (plain n) → Numbered n
+unfolding payloadOf
+run-numbered s bytes bits n e =
+    ⊎-elim (λ q. inl (plain-number n 1 q))
+    (λ h. ⊎-elim (λ q. inr (inl (plain-number n 3 q))) (λ q. inr (inr (inl (plain-number n 4 q)))) h)
+    (refused-yields (payload-yields _ _ _ _ _) bytes bits 0 (plain n) e)
+
+pub settled-numbered : (s : McSettings) (bytes : List ℕ) (bits n : ℕ) → settledOf s bytes bits ≡ refused (plain n) → Numbered n
+unfolding settledOf
+settled-numbered s bytes bits n = go (allocationsFit s)
+  where
+    go : (t : Bool) → cond t (run (payloadOf s) bytes bits 0) (refused (plain 8)) ≡ refused (plain n) → Numbered n
+    go true e = run-numbered s bytes bits n e
+    go false e = let q : plain 8 ≡ plain n = cc in inr (inr (inr (inr (sym (plain-number 8 n q)))))
+
+pub unpack-numbered : (l : Loan) (bytes : List ℕ) (bits n : ℕ) → unpackOf l bytes bits ≡ refused (plain n) → Numbered n
+unfolding unpackOf settledOf
+unpack-numbered l bytes bits n = go (stringFits bytes bits && loanFits (l .rate) (l .baseChannels) (l .lfe) (l .steps) (l .baseSteps))
+  where
+    go : (t : Bool) → cond t (settledOf (settingsOf l) bytes bits) (refused (plain 6)) ≡ refused (plain n) → Numbered n
+    go true e = settled-numbered (settingsOf l) bytes bits n e
+    go false e = let q : plain 6 ≡ plain n = cc in inr (inr (inr (inl (sym (plain-number 6 n q)))))
 
 -- ---- accepted
 

@@ -23,15 +23,13 @@ pub fn allocations_fit(s: McSettings, own: &[u32; 96]) -> bool
     requires { ⌜ now own ≡ ownOf s ⌝ }
     ensures { λ r. ⌜ r ≡ allocationsFit s ⌝ }
 {
-    let nb_steps = s.nb_steps;
     for k in 0usize..96 {
-        if !allocation_fits(nb_steps[k], own[3 * (k % 32) + k / 32]) {
+        if !allocation_fits(s.nb_steps[k], own[3 * (k % 32) + k / 32]) {
             return false;
         }
     }
     if s.lfe_allocation == 0 {
         return true;
     }
-    let header = s.header;
-    header.lfe
+    s.header.lfe
 }

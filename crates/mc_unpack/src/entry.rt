@@ -1,13 +1,11 @@
 // The unpacking call: one function decides, on what is lent and not written, and only then are the buffers written.
 ghost use mathlib.Core.Path.{_≡_};
 ghost use Prim.Native.Nat.{_≤_};
-ghost use lib.ListN.{length, replicate};
-ghost use Rattle.bits.specs.Syntax.{plain, refused};
+ghost use Rattle.bits.specs.Syntax.{plain};
 ghost use Rattle.mc_error.specs.Error.{refusalOf};
-ghost use Rattle.mc_unpack.specs.Outcome.{outcomeOf};
-ghost use Rattle.mc_unpack.specs.Unpack.{settingsOf};
+ghost use Rattle.mc_unpack.specs.Outcome.{codesOf, outcomeOf};
 ghost use Rattle.mc_unpack.specs.PlacesBy.{placesOf};
-ghost use Rattle.mc_unpack.specs.Answer.{loanBy, noTables, valuesOf, afterOf, checkedOf, unpackCall};
+ghost use Rattle.mc_unpack.specs.Answer.{loanBy, tablesOf, noTables, valuesOf, afterOf, unpackCall};
 ghost use Rattle.mc_unpack.specs.Settled.{settledOf, Decided, Numbered};
 use crate::McSettings;
 use crate::allocations::allocations_fit;
@@ -41,6 +39,21 @@ pub struct Unpacked {
 }
 
 impl Unpacked {
+    fn accepted(codes: PayloadCodes) -> Unpacked
+        ensures { λ r. ⌜ (r .answer ≡ UnpackAnswer.Accepted (codes .cursor .at)) × (valuesOf r ≡ tablesOf (codesOf codes)) ⌝ }
+    {
+        let scfsi = codes.scfsi;
+        let predictors = codes.predictors;
+        let scalefactors = codes.scalefactors;
+        Unpacked {
+            answer: UnpackAnswer::Accepted(codes.cursor.at),
+            scfsi,
+            predictors,
+            lf_scalefactor: codes.lf_scalefactor,
+            scalefactors,
+        }
+    }
+
     fn refused(e: McError) -> Unpacked
         ensures { λ r. ⌜ (r .answer ≡ UnpackAnswer.Refused e) × (valuesOf r ≡ noTables) ⌝ }
     {
@@ -100,31 +113,26 @@ pub fn read_mc_payload(bytes: &[u8], bits: usize, s: McSettings) -> McPayload
     ensures { λ r. ⌜ (outcomeOf (r .codes) ≡ settledOf s (now (bytes .entry)) bits) × (r .places ≡ placesOf s) ⌝ }
 {
     let places = places_of(s);
-    let own = places.own;
-    if !allocations_fit(s, &own) {
+    if !allocations_fit(s, &places.own) {
         return McPayload {
             places,
             codes: no_codes(8),
         };
     }
-    let steps = places.steps;
-    let header = s.header;
-    let status = s.status;
-    let predsi = status.mc_prediction;
     let codes = read_payload(
         bytes,
         bits,
-        header.multi_lingual_layer3,
+        s.header.multi_lingual_layer3,
         s.lfe_allocation,
-        &predsi,
-        &steps,
-        &own,
+        &s.status.mc_prediction,
+        &places.steps,
+        &places.own,
     );
     McPayload { places, codes }
 }
 
 // Decides, with nothing written: the loan is tested, then the allocations, and then the payload is read.
-pub fn decide(
+fn decide(
     bytes: &[u8],
     bits: usize,
     rate: u32,
@@ -206,24 +214,12 @@ pub fn unpack(
         raw.len(),
         lfe.len(),
     );
-    let codes = payload.codes;
-    let cursor = codes.cursor;
-    if cursor.err != 0 {
-        return Unpacked::refused(error_of(cursor.err));
+    let err = payload.codes.cursor.err;
+    if err != 0 {
+        return Unpacked::refused(error_of(err));
     }
-    let places = payload.places;
-    let own = places.own;
-    let granules = codes.granules;
-    write_raw(&own, &granules, raw);
-    write_lfe(lfe_allocation, codes.lf_scalefactor, &granules, lfe);
-    let scfsi = codes.scfsi;
-    let predictors = codes.predictors;
-    let scalefactors = codes.scalefactors;
-    Unpacked {
-        answer: UnpackAnswer::Accepted(cursor.at),
-        scfsi,
-        predictors,
-        lf_scalefactor: codes.lf_scalefactor,
-        scalefactors,
-    }
+    write_raw(&payload.places.own, &payload.codes.granules, raw);
+    let lf_scalefactor = payload.codes.lf_scalefactor;
+    write_lfe(lfe_allocation, lf_scalefactor, &payload.codes.granules, lfe);
+    Unpacked::accepted(payload.codes)
 }

@@ -6,7 +6,7 @@ ghost use Rattle.bits.specs.Ran.{Ran};
 ghost use Rattle.bitalloc.specs.Classes.{grouped, bitsPerCodeword};
 ghost use Rattle.mc_unpack.specs.Payload.{granuleAt, granules};
 ghost use Rattle.mc_unpack.specs.Parts.{samplesBy, widthsOf, groupsOf};
-use crate::payload::width_if;
+use crate::payload::bits_if;
 use bitalloc::ClassLookup;
 use bits::Cursor;
 
@@ -77,15 +77,15 @@ fn read_samples(
 }
 
 // A granule: the LFE code, then the samples of each place.
-fn read_granule(
+fn read_granule<'a>(
     bytes: &[u8],
     limit: usize,
     c: Cursor,
     gr: usize,
     lfe: u8,
     own: &[u32; 96],
-    widths: &[u8; 96],
-    groups: &[bool; 96],
+    widths: &'a [u8; 96],
+    groups: &'a [bool; 96],
     codes: &mut [u16],
 ) -> Cursor
     requires { ⌜ (gr < 12) × (lfe ≤ 15) × (length (now codes) ≡ 3468) ⌝ }
@@ -93,7 +93,7 @@ fn read_granule(
     ensures { λ r. ⌜ Ran (now (bytes .entry)) limit c (granuleAt lfe (now (own .entry)) gr (now (codes .entry))) r (now (codes .exit)) ⌝ }
 {
     let first = 289 * gr;
-    let mut cursor = bits::read(bytes, limit, c, width_if(0 < lfe, lfe as usize + 1));
+    let mut cursor = bits::read(bytes, limit, c, bits_if(0 < lfe, lfe as usize + 1));
     codes[first] = cursor.value as u16;
     for i in 0usize..96 {
         if own[i] != 0 {
@@ -128,8 +128,6 @@ pub fn read_granules(
     ensures { λ r. ⌜ Ran (now (bytes .entry)) limit c (granules lfe (now (own .entry))) (r .cursor) (r .codes) ⌝ }
 {
     let codewords = codewords_of(own);
-    let widths = codewords.bits;
-    let groups = codewords.grouped;
     let mut cursor = c;
     let mut codes = [0u16; 3468];
     for gr in 0usize..12 {
@@ -140,8 +138,8 @@ pub fn read_granules(
             gr,
             lfe,
             own,
-            &widths,
-            &groups,
+            &codewords.bits,
+            &codewords.grouped,
             &mut codes,
         );
     }

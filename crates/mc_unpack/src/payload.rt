@@ -33,7 +33,7 @@ pub fn read_scfsi(bytes: &[u8], limit: usize, c: Cursor, steps: &[u32; 96]) -> S
 }
 
 // The bits of a field that is there only where the test holds.
-pub fn width_if(there: bool, n: usize) -> usize
+pub fn bits_if(there: bool, n: usize) -> usize
     ensures { λ r. ⌜ r ≡ bitsIf there n ⌝ }
 {
     if there { n } else { 0 }
@@ -50,14 +50,14 @@ pub struct PayloadCodes {
 }
 
 // The payload by the Layer III flag, the LFE allocation, the coefficient counts, the step counts, and those of samples in the payload.
-pub fn read_payload(
+pub fn read_payload<'a>(
     bytes: &[u8],
     limit: usize,
     layer3: bool,
     lfe: u8,
     predsi: &[u8; 56],
-    steps: &[u32; 96],
-    own: &[u32; 96],
+    steps: &'a [u32; 96],
+    own: &'a [u32; 96],
 ) -> PayloadCodes
     requires { ⌜ lfe ≤ 15 ⌝ }
     ensures { λ r. ⌜ run (payload layer3 lfe (now (predsi .entry)) (now (steps .entry)) (now (own .entry))) (now (bytes .entry)) limit 0 ≡ outcomeOf r ⌝ }
@@ -67,17 +67,17 @@ pub fn read_payload(
         at: 0,
         value: 0,
     };
-    let a = read_scfsi(bytes, limit, start, steps);
-    let scfsi = a.codes;
-    let checked = bits::refuse_if(a.cursor, layer3, 3);
-    let b = read_predictors(bytes, limit, checked, predsi);
-    let predictors = b.codes;
-    let lf = read_lf_scalefactor(bytes, limit, b.cursor, lfe);
-    let d = read_scalefactors(bytes, limit, lf, steps, &scfsi);
-    let scalefactors = d.codes;
-    let e = read_granules(bytes, limit, d.cursor, lfe, own);
-    let cursor = e.cursor;
-    let granules = e.codes;
+    let first = read_scfsi(bytes, limit, start, steps);
+    let scfsi = first.codes;
+    let checked = bits::refuse_if(first.cursor, layer3, 3);
+    let second = read_predictors(bytes, limit, checked, predsi);
+    let predictors = second.codes;
+    let lf = read_lf_scalefactor(bytes, limit, second.cursor, lfe);
+    let third = read_scalefactors(bytes, limit, lf, steps, &scfsi);
+    let scalefactors = third.codes;
+    let last = read_granules(bytes, limit, third.cursor, lfe, own);
+    let cursor = last.cursor;
+    let granules = last.codes;
     PayloadCodes {
         cursor,
         scfsi,

@@ -1,6 +1,6 @@
 // Which channels and subbands the extension carries, and their step counts (ISO/IEC 13818-3, 2.5.2.13, 2.5.2.15 and 2.5.2.17).
 ghost use mathlib.Core.Path.{_≡_};
-ghost use Prim.Native.Nat.{ℕ, _≤_, _<_};
+ghost use Prim.Native.Nat.{ℕ, _<_};
 ghost use lib.ListN.{getD};
 ghost use Rattle.mc_config.specs.Config.{mainOf};
 ghost use Rattle.mc_unpack.specs.Places.{msblimit};
@@ -43,10 +43,7 @@ fn carried(nmch: usize, phantom: bool, limit: usize, m: usize, sb: usize) -> boo
     if m != 0 {
         return true;
     }
-    if 12 <= sb {
-        return false;
-    }
-    true
+    sb < 12
 }
 
 // The source of channel m by the crosstalk code and the second stereo bit of a group.
@@ -132,14 +129,14 @@ fn own_by(steps: &[u32; 96], there: bool, source: u8, m: usize, sb: usize) -> u3
 }
 
 // The tables by place, from those by group.
-fn by_place(
+fn by_place<'a>(
     nmch: usize,
     phantom: bool,
     limit: usize,
     sources: &[u8; 36],
     bases: &[u8; 36],
-    nb_steps: &[u32; 96],
-    base_nb_steps: &[u32; 64],
+    nb_steps: &'a [u32; 96],
+    base_nb_steps: &'a [u32; 64],
 ) -> Places
     requires { ⌜ ((k : ℕ) → k < 36 → getD (now sources) k 0 < 5) × ((k : ℕ) → k < 36 → getD (now bases) k 0 < 2) ⌝ }
     ensures { λ r. ⌜ r ≡ placesBy nmch phantom limit (now (sources .entry)) (now (bases .entry)) (now («nb_steps» .entry)) (now («base_nb_steps» .entry)) ⌝ }
@@ -173,20 +170,20 @@ pub fn places_of(s: McSettings) -> Places
 {
     let config = McConfig::from_header(s.header, s.base_channels);
     let pair = config.pair();
-    let status = s.status;
-    let cross = status.dyn_cross;
-    let tc = status.tc_allocation;
-    let sources = group_sources(pair, config.main_nmch(), &cross);
-    let bases = group_bases(pair, &tc, status.dyn_cross_lr, s.base_channels);
-    let nb_steps = s.nb_steps;
-    let base_nb_steps = s.base_nb_steps;
+    let sources = group_sources(pair, config.main_nmch(), &s.status.dyn_cross);
+    let bases = group_bases(
+        pair,
+        &s.status.tc_allocation,
+        s.status.dyn_cross_lr,
+        s.base_channels,
+    );
     by_place(
         config.nmch,
         config.phantom_centre,
         msblimit(s.rate),
         &sources,
         &bases,
-        &nb_steps,
-        &base_nb_steps,
+        &s.nb_steps,
+        &s.base_nb_steps,
     )
 }

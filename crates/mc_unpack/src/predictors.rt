@@ -1,5 +1,4 @@
 // Delays and coefficients of the predictors, as read (ISO/IEC 13818-3, 2.5.1.17 and 2.5.2.17).
-ghost use mathlib.Core.Path.{_≡_};
 ghost use mathlib.Core.List.{List};
 ghost use Prim.Native.Nat.{ℕ, _+_, _*_};
 ghost use lib.ListN.{set};
@@ -7,7 +6,7 @@ ghost use Rattle.bits.specs.Ran.{Ran};
 ghost use Rattle.bits.specs.Table.{set3};
 ghost use Rattle.mc_unpack.specs.Payload.{predictors};
 ghost use Rattle.mc_unpack.specs.Parts.{predictorBy};
-use crate::payload::width_if;
+use crate::payload::bits_if;
 use bits::Cursor;
 
 // The cursor after a predictor, its delay and its coefficient bytes.
@@ -25,8 +24,8 @@ fn read_predictor(bytes: &[u8], limit: usize, c: Cursor, n: u8) -> PredictorCode
 {
     let d = bits::read(bytes, limit, c, 3);
     let x = bits::read(bytes, limit, d, 8);
-    let y = bits::read(bytes, limit, x, width_if(1 < n, 8));
-    let z = bits::read(bytes, limit, y, width_if(2 < n, 8));
+    let y = bits::read(bytes, limit, x, bits_if(1 < n, 8));
+    let z = bits::read(bytes, limit, y, bits_if(2 < n, 8));
     PredictorCode {
         cursor: z,
         delay: d.value as u8,

@@ -61,7 +61,7 @@ fn write_place(n: u32, i: usize, granules: &[u16; 3468], raw: &mut [f64])
 }
 
 // All raw values, +0 where the payload has none.
-pub fn write_raw(own: &[u32; 96], granules: &[u16; 3468], raw: &mut [f64])
+pub fn write_raw<'a>(own: &'a [u32; 96], granules: &'a [u16; 3468], raw: &mut [f64])
     requires { ⌜ (length (now raw) ≡ 3456) × ((i : ℕ) → i < 96 → stepsFit (getD (now own) i 0) ≡ true) × SamplesFit (now own) (now granules) ⌝ }
     ensures { λ _. ⌜ now (raw .exit) ≡ rawFrom (now (own .entry)) (now (granules .entry)) ⌝ }
 {

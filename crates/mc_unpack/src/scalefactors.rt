@@ -1,5 +1,4 @@
 // Scalefactor indices (ISO/IEC 13818-3, 2.5.1.17 and 2.5.2.17; ISO/IEC 11172-3, 2.4.2.6).
-ghost use mathlib.Core.Path.{_≡_};
 ghost use mathlib.Core.List.{List};
 ghost use Prim.Native.Nat.{ℕ, _*_, _<_};
 ghost use Rattle.bits.specs.Syntax.{done};

@@ -10,22 +10,7 @@ use Rattle.bits.specs.WidthTotal.{most-then, most-last, most-either, most-parts
 use Rattle.bitalloc.specs.Classes.{grouped}
 use Rattle.mc_head.specs.Head.{countAt}
 use Rattle.mc_unpack.specs.declared.McSettings.{McSettings}
-use Rattle.mc_unpack.specs.Payload.{
-  scfsiAt,
-  scfsi,
-  checkLayer3,
-  predictorAt,
-  predictors,
-  factor,
-  lfScalefactor,
-  factorsBy,
-  factorsAt,
-  scalefactors,
-  samplesAt,
-  granuleAt,
-  granules,
-  payload,
-}
+use Rattle.mc_unpack.specs.Payload.{scfsiAt, scfsi, checkLayer3, predictorAt, predictors, factor, lfScalefactor, factorsBy, factorsAt, scalefactors, samplesAt, granuleAt, granules, payload}
 use Rattle.mc_unpack.specs.Unpack.{payloadOf}
 use Rattle.mc_unpack.specs.Longest.Bits.{scfsiBits, factorBits, predictorBits, sampleBits, granuleBits, payloadBits}
 

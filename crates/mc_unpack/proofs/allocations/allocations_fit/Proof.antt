@@ -11,10 +11,10 @@ use Rattle.mc_unpack.proofs.allocations.allocations_fit.Statement.{stat
 use Rattle.mc_unpack.proofs.allocations.allocations_fit.Tie as tie
 
 abbrev Inv-loop : tie.InvT-loop
-Inv-loop s own nb-steps k₀ k = (k ≤ 96) × (each (allocationAt nb-steps own) k ≡ true)
+Inv-loop own s k₀ k = (k ≤ 96) × (each (allocationAt (s .«nb_steps») own) k ≡ true)
 
 abbrev μ-loop : tie.MeasureT-loop
-μ-loop s own nb-steps k₀ k = 96 - k
+μ-loop own s k₀ k = 96 - k
 
 loop-holds : tie.Need-loop-holds Inv-loop μ-loop
 loop-holds c = (omega arith, each-none _)
@@ -22,8 +22,8 @@ loop-holds c = (omega arith, each-none _)
 mul-allocation-fits : tie.Need-mul-allocation-fits Inv-loop μ-loop
 mul-allocation-fits c = search needs
 
-array-read-allocation-fits : tie.Need-array-read-allocation-fits Inv-loop μ-loop
-array-read-allocation-fits c = search needs
+element-copy-out-allocation-fits : tie.Need-element-copy-out-allocation-fits Inv-loop μ-loop
+element-copy-out-allocation-fits c = search needs
 
 mul-allocation-fits-2 : tie.Need-mul-allocation-fits-2 Inv-loop μ-loop
 mul-allocation-fits-2 c = search needs
@@ -34,17 +34,17 @@ add-allocation-fits c = search needs
 mul-allocation-fits-3 : tie.Need-mul-allocation-fits-3 Inv-loop μ-loop
 mul-allocation-fits-3 c = search needs
 
-element-copy-out-allocation-fits : tie.Need-element-copy-out-allocation-fits Inv-loop μ-loop
-element-copy-out-allocation-fits c = search needs
+element-copy-out-allocation-fits-2 : tie.Need-element-copy-out-allocation-fits-2 Inv-loop μ-loop
+element-copy-out-allocation-fits-2 c = search needs
 
 allocation-fits-requires : tie.Need-allocation-fits-requires Inv-loop μ-loop
 allocation-fits-requires c κs = search needs
 
 returns : tie.Need-returns Inv-loop μ-loop
 returns c =
-    let l = c .before .before .before .before in
-    let a = l .before .before .args in
-    allocations-refused _ _ (l .before .before .pre) (each-left (allocationAt (a .s .«nb_steps») (a .own .now)) 96 (l .loop .k) (omega arith) _ (c .before .allocation-fits .ensures) (c .if1 .taken))
+    let l = c .before .before .before .before .before in
+    let a = l .before .args in
+    allocations-refused _ _ (l .before .pre) (each-left (allocationAt (a .t1 .«nb_steps») (a .own .now)) 96 (l .loop .k) (omega arith) _ (c .before .allocation-fits .ensures) (c .if1 .taken))
 
 add-k : tie.Need-add-k Inv-loop μ-loop
 add-k c = search needs
@@ -57,13 +57,13 @@ loop-again c = (omega arith, search each-on)
 
 returns-2 : tie.Need-returns-2 Inv-loop μ-loop
 returns-2 c =
-    let l = c .before .before .before in
-    allocations-none _ _ (l .before .before .pre) (each-all _ 96 _ (omega arith) (omega arith) (l .loop .inv .1)) (c .if2 .taken)
+    let l = c .before .before in
+    allocations-none _ _ (l .before .pre) (each-all _ 96 _ (omega arith) (omega arith) (l .loop .inv .1)) (c .if2 .taken)
 
 returns-3 : tie.Need-returns-3 Inv-loop μ-loop
 returns-3 c =
-    let l = c .before .before .before .before in
-    allocations-lfe _ _ (l .before .before .pre) (each-all _ 96 _ (omega arith) (omega arith) (l .loop .inv .1)) (c .before .if2 .left)
+    let l = c .before .before in
+    allocations-lfe _ _ (l .before .pre) (each-all _ 96 _ (omega arith) (omega arith) (l .loop .inv .1)) (c .if2 .left)
 
 pub allocations-fit-spec : {M : Type 1} → statement M
 allocations-fit-spec =
@@ -73,11 +73,11 @@ allocations-fit-spec =
     μ-loop
     loop-holds
     mul-allocation-fits
-    array-read-allocation-fits
+    element-copy-out-allocation-fits
     mul-allocation-fits-2
     add-allocation-fits
     mul-allocation-fits-3
-    element-copy-out-allocation-fits
+    element-copy-out-allocation-fits-2
     allocation-fits-requires
     returns
     add-k

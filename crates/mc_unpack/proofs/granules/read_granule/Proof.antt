@@ -22,11 +22,11 @@ abbrev μ-loop : tie.MeasureT-loop
 mul-first : tie.Need-mul-first Inv-loop μ-loop
 mul-first c = search needs
 
-add-width-if : tie.Need-add-width-if Inv-loop μ-loop
-add-width-if c = search needs
+add-bits-if : tie.Need-add-bits-if Inv-loop μ-loop
+add-bits-if c = search needs
 
-width-if-requires : tie.Need-width-if-requires Inv-loop μ-loop
-width-if-requires c κs = search needs
+bits-if-requires : tie.Need-bits-if-requires Inv-loop μ-loop
+bits-if-requires c κs = search needs
 
 read-requires : tie.Need-read-requires Inv-loop μ-loop
 read-requires c κs = search (lfe-width, needs)
@@ -89,8 +89,8 @@ read-granule-spec =
     Inv-loop
     μ-loop
     mul-first
-    add-width-if
-    width-if-requires
+    add-bits-if
+    bits-if-requires
     read-requires
     cast-codes
     mul-codes

@@ -1,6 +1,6 @@
 -- `places::carried` meets its contract.
 use borrow.Author.Tests.{not-true, not-false}
-use Rattle.mc_unpack.proofs.PlacesBuilt.{carried-beyond, carried-above, carried-plain, carried-other, carried-barred, carried-below}
+use Rattle.mc_unpack.proofs.PlacesBuilt.{carried-beyond, carried-above, carried-plain, carried-other, carried-first}
 use Rattle.mc_unpack.proofs.places.carried.Statement.{statement}
 use Rattle.mc_unpack.proofs.places.carried.Tie as tie
 
@@ -17,10 +17,7 @@ returns-4 : tie.Need-returns-4
 returns-4 c = search (carried-other, not-false)
 
 returns-5 : tie.Need-returns-5
-returns-5 c = search (carried-barred, not-false)
-
-returns-6 : tie.Need-returns-6
-returns-6 c = search (carried-below, not-false)
+returns-5 c = search (carried-first, not-false)
 
 pub carried-spec : {M : Type 1} → statement M
-carried-spec = tie.close (tie.spec returns returns-2 returns-3 returns-4 returns-5 returns-6)
+carried-spec = tie.close (tie.spec returns returns-2 returns-3 returns-4 returns-5)

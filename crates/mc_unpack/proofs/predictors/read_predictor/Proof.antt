@@ -12,14 +12,14 @@ read-requires c κs = search needs
 read-requires-2 : tie.Need-read-requires-2
 read-requires-2 c κs = search needs
 
-width-if-requires : tie.Need-width-if-requires
-width-if-requires c κs = search needs
+bits-if-requires : tie.Need-bits-if-requires
+bits-if-requires c κs = search needs
 
 read-requires-3 : tie.Need-read-requires-3
 read-requires-3 c κs = search (width-most, lit≤)
 
-width-if-requires-2 : tie.Need-width-if-requires-2
-width-if-requires-2 c κs = search needs
+bits-if-requires-2 : tie.Need-bits-if-requires-2
+bits-if-requires-2 c κs = search needs
 
 read-requires-4 : tie.Need-read-requires-4
 read-requires-4 c κs = search (width-most, lit≤)
@@ -45,9 +45,9 @@ read-predictor-spec =
     (tie.spec
     read-requires
     read-requires-2
-    width-if-requires
+    bits-if-requires
     read-requires-3
-    width-if-requires-2
+    bits-if-requires-2
     read-requires-4
     cast-t11
     cast-t12
