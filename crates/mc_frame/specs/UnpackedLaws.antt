@@ -2,7 +2,6 @@
 use mathlib.Core.Path.{_≡_, refl, sym, ap, _∙_}
 use mathlib.Core.Bool.{Bool, true, false, not, cond}
 use mathlib.Core.List.{List}
-use mathlib.Core.Logic.{inl, inr, ⊎-elim}
 use Prim.Native.Nat.{ℕ, _≤_, _<_}
 use native.Mathlib.Omega.{arith}
 use borrow.Author.Tests.{eq-eqb, ne-eqb, not-true, not-false}
@@ -12,8 +11,8 @@ use mir.Val.{Fits}
 use mir.Syntax.{w8}
 use Rattle.mc_config.specs.Config.{configOf}
 use Rattle.mc_config.specs.ConfigLaws.{layout-length}
-use Rattle.bits.specs.Syntax.{Refusal, plain, Outcome, accepted, refused, run}
-use Rattle.bits.specs.Yields.{accepted-yields, refused-yields}
+use Rattle.bits.specs.Syntax.{plain, accepted, refused, run}
+use Rattle.bits.specs.Yields.{accepted-yields}
 use Rattle.mc_error.specs.Error.{refusalOf}
 use Rattle.mc_error.specs.declared.McError.{McError}
 use Rattle.mc_error.specs.declared.McError.the-variants.{ConfigChanged}
@@ -21,9 +20,8 @@ use Rattle.mc_unpack.specs.declared.McSettings.{McSettings}
 use Rattle.mc_unpack.specs.declared.payload.PayloadCodes.{PayloadCodes}
 use Rattle.mc_unpack.specs.Outcome
 use Rattle.mc_unpack.specs.Payload.{Codes}
-use Rattle.mc_unpack.specs.PayloadYields.{payload-yields}
 use Rattle.mc_unpack.specs.Settled.{settledOf, Numbered}
-use Rattle.mc_unpack.specs.SettledLaws.{Writable, settled-writable}
+use Rattle.mc_unpack.specs.SettledLaws.{Writable, settled-numbered, settled-writable}
 use Rattle.mc_unpack.specs.Record.{rawOf, lfeOf, recordOf}
 use Rattle.mc_unpack.specs.Unpack.{allocationsFit, payloadOf, Loan, settingsOf}
 use Rattle.mc_unpack.specs.Demand3.Widths.{Fitting, codes-fit}
@@ -37,21 +35,7 @@ use Rattle.mc_frame.specs.Answer.{buffersFrom, afterOf}
 use Rattle.mc_frame.specs.Long.{Long, Delayed}
 use Rattle.mc_frame.specs.WriteLaws.{delayed}
 
--- ---- the number of a payload's refusal
-
-plain-number : (n m : ℕ) → plain n ≡ plain m → n ≡ m
-plain-number n m e = ap (λ (r : Refusal). r .number) e
-
-run-numbered : (s : McSettings) (bytes : List ℕ) (bits n : ℕ) → run (payloadOf s) bytes bits 0 ≡ refused (plain n) → Numbered n
-unfolding payloadOf
-run-numbered s bytes bits n e =
-    ⊎-elim (λ q. inl (plain-number n 1 q))
-    (λ st. ⊎-elim (λ q. inr (inl (plain-number n 3 q))) (λ q. inr (inr (inl (plain-number n 4 q)))) st)
-    (refused-yields (payload-yields _ _ _ _ _) bytes bits 0 (plain n) e)
-
-settled-numbered : (s : McSettings) (bytes : List ℕ) (bits n : ℕ) (t : Bool) → cond t (run (payloadOf s) bytes bits 0) (refused (plain 8)) ≡ refused (plain n) → Numbered n
-settled-numbered s bytes bits n true e = run-numbered s bytes bits n e
-settled-numbered s bytes bits n false e = let q : plain 8 ≡ plain n = cc in inr (inr (inr (inr (sym (plain-number 8 n q)))))
+-- ---- what was read
 
 settled-ran : (s : McSettings) (bytes : List ℕ) (bits : ℕ) (c : Codes) (u : ℕ) (t : Bool) → cond t (run (payloadOf s) bytes bits 0) (refused (plain 8)) ≡ accepted c u
     → run (payloadOf s) bytes bits 0 ≡ accepted c u
@@ -93,8 +77,7 @@ module _ (s : McSettings) (payload : List ℕ) (bits : ℕ) (codes : PayloadCode
     is-refused = sym o ∙ rw (ne-eqb (codes .cursor .err) 0 z)
 
     pub refused-number : Numbered (codes .cursor .err)
-    unfolding settledOf
-    refused-number = settled-numbered s payload bits (codes .cursor .err) (allocationsFit s) is-refused
+    refused-number = settled-numbered s payload bits (codes .cursor .err) is-refused
 
   module _ (z : codes .cursor .err ≡ 0) where
     is-accepted : settledOf s payload bits ≡ accepted (Outcome.codesOf codes) (codes .cursor .at)
