@@ -6,14 +6,9 @@ use Prim.Native.Nat.{ℕ, suc, _<_}
 use native.Mathlib.Nat.{le-of-suc-le-suc, not-suc-le-zero}
 use lib.Dec.{T, eqb, ltb→lt, nltb→le, eqb→eq}
 use lib.ListN.{length, getD, List·getD-eq-default}
-use Rattle.floats.specs.Table.{at, getD-default}
+use Rattle.floats.specs.Table.{at}
 use Rattle.bitalloc.specs.declared.QuantClass.{QuantClass}
 use Rattle.bitalloc.specs.Classes.{row, classes, classAt, placeIn, classIndex, isClass, classOf, grouped}
-
--- an entry of a list that is the table
-pub classes-at : (l : List QuantClass) (default : QuantClass) (index : ℕ) → l ≡ classes → index < 17 → getD l index default ≡ classAt index
-unfolding classAt
-classes-at l default index e h = ap (λ (l : List QuantClass). getD l index default) e ∙ getD-default classes index default (row 0 0 0 false 0 0) h
 
 pub class-index-at : (i : ℕ) → i < 17 → classIndex (classAt i .«nb_steps») ≡ i
 unfolding classAt classIndex

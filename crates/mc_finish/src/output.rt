@@ -1,15 +1,16 @@
 // The output by channel, slot and subband, and the history that the next frame predicts from (ISO/IEC 13818-3, 2.5.3.2.1).
 ghost use mathlib.Core.Path.{_≡_};
 ghost use mathlib.Core.Bool.{cond};
-ghost use Prim.Native.Nat.{_+_, _*_, _<_};
+ghost use Prim.Native.Nat.{_+_, _*_, _<_, _≤_};
 ghost use lib.Dec.{eqb};
 ghost use lib.ListN.{length};
 ghost use Rattle.mc_unpack.specs.Places.{msblimit};
-ghost use Rattle.mc_finish.specs.Code.Strided.{across};
+ghost use Rattle.mc_finish.specs.Code.Strided.{strided, across};
 ghost use Rattle.mc_finish.specs.Scale.{scaledBase};
 ghost use Rattle.mc_finish.specs.Output.{outputOf, historyOf};
-ghost use Rattle.mc_finish.specs.Code.OutputByMix.{mixOf, tcsOf, mainBy, mixedBy, SecondFits, secondBy, channelBy, outputBy, historyBy};
+ghost use Rattle.mc_finish.specs.Code.OutputByMix.{mixOf, tcsOf, mainBy, mixedBy, SecondFits, secondBy, channelBy, outputBy, baseAlone, lineBy};
 use crate::dematrix::dematrix;
+use crate::scale::chosen;
 use crate::scale::second_base;
 use mc_config::McConfig;
 use mc_config::sbgr_of_subband;
@@ -133,6 +134,16 @@ fn write_mixed(
     }
 }
 
+// All slots and subbands where nothing but the base is heard: its channels as they are, and +0 beyond them.
+fn write_base(x: Mix, left: &[f64], right: &[f64], output: &mut [f64])
+    requires { ⌜ (length (now left) ≡ 1152) × (length (now right) ≡ 1152) × (length (now output) ≡ 5760) ⌝ }
+    ensures { λ _. ⌜ now (output .exit) ≡ baseAlone x (now (left .entry)) (now (right .entry)) ⌝ }
+{
+    for j in 0usize..1152 {
+        store(x, [left[j], right[j], 0.0, 0.0, 0.0], j, output);
+    }
+}
+
 // Writes the whole output, channel, slot and subband at (36 * channel + slot) * 32 + subband.
 pub fn write_output<'a>(
     s: McSettings,
@@ -144,34 +155,38 @@ pub fn write_output<'a>(
     requires { ⌜ (length (now left) ≡ 1152) × (length (now right) ≡ cond (eqb (s .«base_channels») 1) 0 1152) × (length (now work) ≡ 3456) × (length (now output) ≡ 5760) ⌝ }
     ensures { λ _. ⌜ now (output .exit) ≡ outputOf s (scaledBase (now (left .entry)) (now (right .entry))) (now (work .entry)) ⌝ }
 {
+    let x = mix_of(s);
+    let second = second_base(s.base_channels, left, right);
+    if (x.main == 0) & !x.second_stereo {
+        write_base(x, left, second, output);
+        return;
+    }
     let status = s.status;
     let tc = status.tc_allocation;
     let tcs = tcs_of(&tc);
-    let second = second_base(s.base_channels, left, right);
-    write_mixed(mix_of(s), &tcs, left, second, work, output);
+    write_mixed(x, &tcs, left, second, work, output);
 }
 
-// One value of the history: base channel, subband and slot by its place.
-fn history_at(left: &[f64], right: &[f64], i: usize) -> f64
-    requires { ⌜ (length (now left) ≡ 1152) × (length (now right) ≡ 1152) × (i < 576) ⌝ }
-    ensures { λ r. ⌜ r ≡ historyBy (now (left .entry)) (now (right .entry)) i ⌝ }
+// The last nine slots of one subband of a base channel, oldest first.
+fn store_line(base: &[f64], sb: usize, values: &mut [f64], at: usize)
+    requires { ⌜ (length (now base) ≡ 1152) × (sb < 32) × (at + 9 ≤ length (now values)) ⌝ }
+    ensures { λ _. ⌜ now (values .exit) ≡ strided 1 (lineBy (now (base .entry)) sb) at 9 (now (values .entry)) ⌝ }
 {
-    let at = 32 * (27 + i % 9) + i % 288 / 9;
-    if i / 288 == 0 {
-        return left[at];
+    for k in 0usize..9 {
+        values[at + k] = base[32 * (27 + k) + sb];
     }
-    right[at]
 }
 
-// The last nine slots of both base channels, oldest first, for the next frame's prediction; one base channel in both places.
+// The last nine slots of both base channels for the next frame's prediction; one base channel in both places.
 pub fn history<'a>(s: McSettings, left: &'a [f64], right: &'a [f64]) -> [f64; 576]
     requires { ⌜ (length (now left) ≡ 1152) × (length (now right) ≡ cond (eqb (s .«base_channels») 1) 0 1152) ⌝ }
     ensures { λ r. ⌜ r ≡ historyOf s (scaledBase (now (left .entry)) (now (right .entry))) ⌝ }
 {
     let second = second_base(s.base_channels, left, right);
     let mut values = [0.0f64; 576];
-    for i in 0usize..576 {
-        values[i] = history_at(left, second, i);
+    for line in 0usize..64 {
+        let base = chosen((line / 32) as u8, left, second);
+        store_line(base, line % 32, &mut values, 9 * line);
     }
     values
 }

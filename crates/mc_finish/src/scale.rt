@@ -4,13 +4,10 @@ ghost use mathlib.Core.Bool.{cond};
 ghost use Prim.Native.Nat.{ℕ, _+_, _*_, _/_, _%_, _<_, _≤_};
 ghost use lib.Dec.{eqb};
 ghost use lib.ListN.{length, getD};
-ghost use Rattle.floats.specs.Binary64.{zero64};
-ghost use Rattle.fill.specs.Tab.{tab};
-ghost use Rattle.tables.specs.Scalefactor.{scalefactorOf};
 ghost use Rattle.mc_finish.specs.Scale.{chosen};
 ghost use Rattle.mc_finish.specs.Code.Strided.{column};
 ghost use Rattle.mc_finish.specs.Code.Column.{columnAt};
-ghost use Rattle.mc_finish.specs.Code.ScaleByPlace.{factorsOf, timesFactor, scaledBy, PlacesFit, scaledByPlace};
+ghost use Rattle.mc_finish.specs.Code.ScaleByPlace.{factorsOf, timesFactor, scaledFrom, PlacesFit, scaledByPlace};
 use mc_config::FROM_BASE;
 use mc_config::TRANSMITTED;
 
@@ -31,39 +28,18 @@ pub fn second_base<'a>(base_channels: u8, left: &'a [f64], right: &'a [f64]) -> 
     chosen(1, left, right)
 }
 
-// Table B.1 as a local array, which a loop can index.
-fn scalefactor_table() -> [f64; 63]
-    ensures { λ r. ⌜ r ≡ tab scalefactorOf 63 ⌝ }
-{
-    let mut table = [0.0f64; 63];
-    for i in 0usize..63 {
-        table[i] = tables::scalefactor(i);
-    }
-    table
-}
-
 // The factors of all places, each looked up once.
 fn factors_of(scalefactor: &[u8; 288]) -> [f64; 288]
     requires { ⌜ ((i : ℕ) → i < 288 → getD (now scalefactor) i 0 < 63) ⌝ }
     ensures { λ r. ⌜ r ≡ factorsOf (now (scalefactor .entry)) ⌝ }
 {
-    let table = scalefactor_table();
+    let table = tables::scalefactor_table();
     let mut factors = [0.0f64; 288];
     for i in 0usize..288 {
         let index = scalefactor[i] as usize;
         factors[i] = table[index];
     }
     factors
-}
-
-// +0 in one subband of a channel.
-fn clear_column(work: &mut [f64], at: usize)
-    requires { ⌜ at + 1120 < length (now work) ⌝ }
-    ensures { λ _. ⌜ now (work .exit) ≡ column (λ (slot : ℕ). zero64) at (now (work .entry)) ⌝ }
-{
-    for slot in 0usize..36 {
-        work[at + 32 * slot] = 0.0;
-    }
 }
 
 // One subband of a channel: the values that `src` has from `from` on, times the factors of the place.
@@ -83,10 +59,9 @@ fn scale_column(
     }
 }
 
-// One place, of n steps: its own raw values, a base channel's, or an earlier channel's (2.5.3.2.1.2), scaled; +0 where n is 0.
+// One place: its own raw values, a base channel's, or an earlier channel's (2.5.3.2.1.2), scaled.
 fn scale_place<'a>(
     place: usize,
-    n: u32,
     source: u8,
     base: u8,
     factors: &[f64; 288],
@@ -96,14 +71,10 @@ fn scale_place<'a>(
     work: &mut [f64],
 )
     requires { ⌜ (place < 96) × (source ≤ 4) × (length (now raw) ≡ 3456) × (length (chosen base (now left) (now right)) ≡ 1152) × (length (now work) ≡ 3456) ⌝ }
-    ensures { λ _. ⌜ now (work .exit) ≡ column (scaledBy n source base (now (factors .entry)) (now (raw .entry)) (now (left .entry)) (now (right .entry)) place) (columnAt place) (now (work .entry)) ⌝ }
+    ensures { λ _. ⌜ now (work .exit) ≡ column (scaledFrom source base (now (factors .entry)) (now (raw .entry)) (now (left .entry)) (now (right .entry)) place) (columnAt place) (now (work .entry)) ⌝ }
 {
     let sb = place / 3;
     let at = 1152 * (place % 3) + sb;
-    if n == 0 {
-        clear_column(work, at);
-        return;
-    }
     match source {
         TRANSMITTED => scale_column(raw, at, factors, place, work, at),
         FROM_BASE => scale_column(chosen(base, left, right), sb, factors, place, work, at),
@@ -111,7 +82,8 @@ fn scale_place<'a>(
     }
 }
 
-// All places, channel by channel: work holds the scaled values, channel m, slot and subband at (36 * m + slot) * 32 + subband.
+// All places, channel by channel: work holds the scaled values, channel m, slot and subband at (36 * m + slot) * 32 + subband; +0 where
+// the step count is 0.
 pub fn scale<'a>(
     steps: &[u32; 96],
     source: &[u8; 96],
@@ -127,18 +99,20 @@ pub fn scale<'a>(
     ensures { λ _. ⌜ now (work .exit) ≡ scaledByPlace (now (steps .entry)) (now (source .entry)) (now (base .entry)) (factorsOf (now (scalefactor .entry))) (now (raw .entry)) (now (left .entry)) (now (right .entry)) ⌝ }
 {
     let factors = factors_of(scalefactor);
+    fill::clear(work);
     for i in 0usize..96 {
         let place = 3 * (i % 32) + i / 32;
-        scale_place(
-            place,
-            steps[place],
-            source[place],
-            base[place],
-            &factors,
-            raw,
-            left,
-            right,
-            work,
-        );
+        if steps[place] != 0 {
+            scale_place(
+                place,
+                source[place],
+                base[place],
+                &factors,
+                raw,
+                left,
+                right,
+                work,
+            );
+        }
     }
 }

@@ -10,14 +10,6 @@ ghost use Rattle.mc_unpack.specs.Unpack.{stepsFit};
 ghost use Rattle.mc_unpack.specs.Values.{threeCodes, threeValues, rawBy, rawFrom, lfeBy, lfeFrom, spread, ValuesFit, PlaceFits, SamplesFit, LfeFits};
 use bitalloc::QuantClass;
 
-fn clear(raw: &mut [f64])
-    ensures { λ _. ⌜ now (raw .exit) ≡ tab (λ (k : ℕ). zero64) (length (now (raw .entry))) ⌝ }
-{
-    for k in 0usize..raw.len() {
-        raw[k] = 0.0;
-    }
-}
-
 // The codes of three samples: the digits of the group code x, or x, y and z.
 fn three_codes(class: QuantClass, x: u16, y: u16, z: u16) -> [u32; 3]
     requires { ⌜ 0 < class .«nb_steps» ⌝ }
@@ -65,7 +57,7 @@ pub fn write_raw<'a>(own: &'a [u32; 96], granules: &'a [u16; 3468], raw: &mut [f
     requires { ⌜ (length (now raw) ≡ 3456) × ((i : ℕ) → i < 96 → stepsFit (getD (now own) i 0) ≡ true) × SamplesFit (now own) (now granules) ⌝ }
     ensures { λ _. ⌜ now (raw .exit) ≡ rawFrom (now (own .entry)) (now (granules .entry)) ⌝ }
 {
-    clear(raw);
+    fill::clear(raw);
     for i in 0usize..96 {
         let n = own[i];
         if n != 0 {

@@ -1,81 +1,102 @@
--- `bitalloc::class_index` meets its contract. The invariant: the rows passed have other steps, so the place is i more than in the rows that are left.
-use mathlib.Core.Path.{_≡_, sym, ap, _∙_}
-use mathlib.Core.Bool.{Bool, cond}
-use mathlib.Core.List.{List}
-use Prim.Native.Nat.{ℕ, suc, _+_, _-_, _≤_, _<_}
-use native.Mathlib.Numerals.{add-one}
-use native.Mathlib.Omega.{arith}
-use lib.Dec.{eqb}
-use lib.ListN.{drop, getD}
-use lib.Seq.{drop-cons}
-use borrow.Author.Needs.{needs}
-use borrow.Author.Tests.{eq-eqb, ne-eqb}
-use Rattle.bitalloc.specs.declared.QuantClass.{QuantClass}
-use Rattle.bitalloc.specs.Classes.{classes, placeIn, classIndex}
+-- `bitalloc::class_index` meets its contract: one case for each row of the table.
+use mathlib.Core.Path.{sym}
+use borrow.Author.Tests.{ne-eqb}
+use Rattle.bitalloc.specs.Classes.{classes, classIndex}
 use Rattle.bitalloc.proofs.class_index.Statement.{statement}
 use Rattle.bitalloc.proofs.class_index.Tie as tie
 
--- the place is found in the rows from i on
-abbrev Left : ℕ → ℕ → Type 0
-Left steps i = classIndex steps ≡ i + placeIn (drop i classes) steps
+returns : tie.Need-returns
+unfolding classIndex classes
+returns c = rw (c .match .keys1)
 
-abbrev Inv-loop : tie.InvT-loop
-Inv-loop nb-steps table i₀ i = (i ≤ 17) × Left nb-steps i
+returns-2 : tie.Need-returns-2
+unfolding classIndex classes
+returns-2 c = rw (c .match .keys2)
 
-abbrev μ-loop : tie.MeasureT-loop
-μ-loop nb-steps table i₀ i = 17 - i
+returns-3 : tie.Need-returns-3
+unfolding classIndex classes
+returns-3 c = rw (c .match .keys3)
 
-module _ (steps i : ℕ) (table : List QuantClass) (default : QuantClass) (h : i < 17) (left : Left steps i) (r : table ≡ classes) where
-  abbrev rest : ℕ
-  rest = placeIn (drop (suc i) classes) steps
+returns-4 : tie.Need-returns-4
+unfolding classIndex classes
+returns-4 c = rw (c .match .keys4)
 
-  -- by the row at i
-  place : placeIn (drop i classes) steps ≡ cond (eqb (getD table i default .«nb_steps») steps) 0 (suc rest)
-  unfolding classes
-  place =
-      ap (λ (l : List QuantClass). placeIn l steps) (drop-cons classes i default h)
-      ∙ ap (λ (l : List QuantClass). cond (eqb (getD l i default .«nb_steps») steps) 0 (suc rest)) (sym r)
+returns-5 : tie.Need-returns-5
+unfolding classIndex classes
+returns-5 c = rw (c .match .keys5)
 
-  here : getD table i default .«nb_steps» ≡ steps → i ≡ classIndex steps
-  here e = let w : placeIn (drop i classes) steps ≡ 0 = place ∙ ap (λ (b : Bool). cond b 0 (suc rest)) (eq-eqb _ _ e) in omega arith
+returns-6 : tie.Need-returns-6
+unfolding classIndex classes
+returns-6 c = rw (c .match .keys6)
 
-  later : (getD table i default .«nb_steps» ≡ steps → ⊥) → Left steps (i + 1)
-  later e = let w : placeIn (drop i classes) steps ≡ suc rest = place ∙ ap (λ (b : Bool). cond b 0 (suc rest)) (ne-eqb _ _ e) in rw (add-one i) (omega arith)
+returns-7 : tie.Need-returns-7
+unfolding classIndex classes
+returns-7 c = rw (c .match .keys7)
 
--- no row is left
-none : (steps i : ℕ) → 17 ≤ i → i ≤ 17 → Left steps i → i ≡ classIndex steps
-unfolding classes
-none steps i g h left = let e : i ≡ 17 = omega arith in sym (left ∙ ap (λ (i : ℕ). i + placeIn (drop i classes) steps) e ∙ sym e)
+returns-8 : tie.Need-returns-8
+unfolding classIndex classes
+returns-8 c = rw (c .match .keys8)
 
-class-table-requires : tie.Need-class-table-requires Inv-loop μ-loop
-class-table-requires c κs = search needs
+returns-9 : tie.Need-returns-9
+unfolding classIndex classes
+returns-9 c = rw (c .match .keys9)
 
-loop-holds : tie.Need-loop-holds Inv-loop μ-loop
-unfolding classIndex
-loop-holds c = search needs
+returns-10 : tie.Need-returns-10
+unfolding classIndex classes
+returns-10 c = rw (c .match .keys10)
 
-mul-class : tie.Need-mul-class Inv-loop μ-loop
-mul-class c = search needs
+returns-11 : tie.Need-returns-11
+unfolding classIndex classes
+returns-11 c = rw (c .match .keys11)
 
-array-copy-out-class : tie.Need-array-copy-out-class Inv-loop μ-loop
-array-copy-out-class c = search needs
+returns-12 : tie.Need-returns-12
+unfolding classIndex classes
+returns-12 c = rw (c .match .keys12)
 
-returns : tie.Need-returns Inv-loop μ-loop
-returns c = search here
+returns-13 : tie.Need-returns-13
+unfolding classIndex classes
+returns-13 c = rw (c .match .keys13)
 
-add-i : tie.Need-add-i Inv-loop μ-loop
-add-i c = search needs
+returns-14 : tie.Need-returns-14
+unfolding classIndex classes
+returns-14 c = rw (c .match .keys14)
 
-loop-less : tie.Need-loop-less Inv-loop μ-loop
-loop-less c = search needs
+returns-15 : tie.Need-returns-15
+unfolding classIndex classes
+returns-15 c = rw (c .match .keys15)
 
-loop-again : tie.Need-loop-again Inv-loop μ-loop
-loop-again c = let at-loop = c .before .before .before .before in (search needs, later _ _ _ _ (search needs) (at-loop .loop .inv .1) (at-loop .before .class-table .ensures) (c .if1 .left))
+returns-16 : tie.Need-returns-16
+unfolding classIndex classes
+returns-16 c = rw (c .match .keys16)
 
-returns-2 : tie.Need-returns-2 Inv-loop μ-loop
-returns-2 c = search none
+returns-17 : tie.Need-returns-17
+unfolding classIndex classes
+returns-17 c = rw (c .match .keys17)
+
+returns-18 : tie.Need-returns-18
+unfolding classIndex classes
+returns-18 c =
+    simp (
+      ne-eqb 3 _ (λ e. c .match .rest .0 .0 .0 .0 .0 .0 .0 .0 .0 .0 .0 .0 .0 .0 .0 .0 .1 (sym e)),
+      ne-eqb 5 _ (λ e. c .match .rest .0 .0 .0 .0 .0 .0 .0 .0 .0 .0 .0 .0 .0 .0 .0 .1 (sym e)),
+      ne-eqb 7 _ (λ e. c .match .rest .0 .0 .0 .0 .0 .0 .0 .0 .0 .0 .0 .0 .0 .0 .1 (sym e)),
+      ne-eqb 9 _ (λ e. c .match .rest .0 .0 .0 .0 .0 .0 .0 .0 .0 .0 .0 .0 .0 .1 (sym e)),
+      ne-eqb 15 _ (λ e. c .match .rest .0 .0 .0 .0 .0 .0 .0 .0 .0 .0 .0 .0 .1 (sym e)),
+      ne-eqb 31 _ (λ e. c .match .rest .0 .0 .0 .0 .0 .0 .0 .0 .0 .0 .0 .1 (sym e)),
+      ne-eqb 63 _ (λ e. c .match .rest .0 .0 .0 .0 .0 .0 .0 .0 .0 .0 .1 (sym e)),
+      ne-eqb 127 _ (λ e. c .match .rest .0 .0 .0 .0 .0 .0 .0 .0 .0 .1 (sym e)),
+      ne-eqb 255 _ (λ e. c .match .rest .0 .0 .0 .0 .0 .0 .0 .0 .1 (sym e)),
+      ne-eqb 511 _ (λ e. c .match .rest .0 .0 .0 .0 .0 .0 .0 .1 (sym e)),
+      ne-eqb 1023 _ (λ e. c .match .rest .0 .0 .0 .0 .0 .0 .1 (sym e)),
+      ne-eqb 2047 _ (λ e. c .match .rest .0 .0 .0 .0 .0 .1 (sym e)),
+      ne-eqb 4095 _ (λ e. c .match .rest .0 .0 .0 .0 .1 (sym e)),
+      ne-eqb 8191 _ (λ e. c .match .rest .0 .0 .0 .1 (sym e)),
+      ne-eqb 16383 _ (λ e. c .match .rest .0 .0 .1 (sym e)),
+      ne-eqb 32767 _ (λ e. c .match .rest .0 .1 (sym e)),
+      ne-eqb 65535 _ (λ e. c .match .rest .1 (sym e)),
+    )
 
 pub class-index-spec : {M : Type 1} → statement M
 class-index-spec =
     tie.close
-    (tie.spec Inv-loop μ-loop class-table-requires loop-holds mul-class array-copy-out-class returns add-i loop-less loop-again returns-2)
+    (tie.spec returns returns-2 returns-3 returns-4 returns-5 returns-6 returns-7 returns-8 returns-9 returns-10 returns-11 returns-12 returns-13 returns-14 returns-15 returns-16 returns-17 returns-18)

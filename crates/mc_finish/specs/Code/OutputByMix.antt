@@ -1,7 +1,7 @@
 -- The output as the code makes it: the five channels of a slot and subband at a time, slot and subband at j = 32 slot + sb.
 use mathlib.Core.Path.{_≡_}
 use mathlib.Core.Bool.{true, _&&_, cond}
-use mathlib.Core.List.{List}
+use mathlib.Core.List.{List, [], _∷_}
 use Prim.Native.Nat.{ℕ, _+_, _-_, _*_, _/_, _%_, _≤_}
 use lib.Dec.{ltb}
 use lib.Ieee.{Float, nan}
@@ -64,7 +64,21 @@ outputByAt x tcs left right work k =
 unfoldable pub outputBy : Mix → List ℕ → List Float → List Float → List Float → List Float
 outputBy x tcs left right work = tab (outputByAt x tcs left right work) 5760
 
+-- the five values where nothing but the base is heard, and the element k of that output
+abbrev pub baseBy : List Float → List Float → ℕ → List Float
+baseBy left right j = getD left j nan ∷ getD right j nan ∷ zero64 ∷ zero64 ∷ zero64 ∷ []
+
+abbrev pub baseAloneAt : Mix → List Float → List Float → ℕ → Float
+baseAloneAt x left right k = channelBy x (baseBy left right (k % 1152)) (k / 1152)
+
+unfoldable pub baseAlone : Mix → List Float → List Float → List Float
+baseAlone x left right = tab (baseAloneAt x left right) 5760
+
 -- ---- the history, from the base channels that stand for both
+
+-- slot 27 + k of a subband
+abbrev pub lineBy : List Float → ℕ → ℕ → Float
+lineBy base sb k = getD base (32 * (27 + k) + sb) nan
 
 abbrev pub historyBy : List Float → List Float → ℕ → Float
 historyBy left right i = getD (chosen (i / 288) left right) (32 * (27 + i % 9) + i % 288 / 9) nan

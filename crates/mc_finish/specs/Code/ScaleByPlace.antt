@@ -27,15 +27,14 @@ unscaledBy source ch raw left right place slot =
     cond (eqb source T) (getD raw (columnAt place + 32 * slot) nan)
     (cond (eqb source B) (getD (chosen ch left right) (place / 3 + 32 * slot) nan) (getD raw (1152 * source + place / 3 + 32 * slot) nan))
 
--- the same scaled; +0 where the step count is 0
-abbrev pub scaledBy : ℕ → ℕ → ℕ → List Float → List Float → List Float → List Float → ℕ → ℕ → Float
-scaledBy n source ch factors raw left right place slot =
-    cond (eqb n 0) zero64 (unscaledBy source ch raw left right place slot ⊗ getD factors (3 * place + slot / 12) nan)
+-- the same scaled
+abbrev pub scaledFrom : ℕ → ℕ → List Float → List Float → List Float → List Float → ℕ → ℕ → Float
+scaledFrom source ch factors raw left right place slot = unscaledBy source ch raw left right place slot ⊗ getD factors (3 * place + slot / 12) nan
 
--- a slot of a place, by the step counts, sources and base channels of all places
+-- a slot of a place, by the step counts, sources and base channels of all places; +0 where the step count is 0
 abbrev pub placeScaled : List ℕ → List ℕ → List ℕ → List Float → List Float → List Float → List Float → ℕ → ℕ → Float
 placeScaled steps source base factors raw left right i slot =
-    scaledBy (getD steps i 0) (getD source i 0) (getD base i 0) factors raw left right i slot
+    cond (eqb (getD steps i 0) 0) zero64 (scaledFrom (getD source i 0) (getD base i 0) factors raw left right i slot)
 
 -- sources are channels, T or B; a base channel that may be copied is there; scalefactor indices are below 63
 pub record PlacesFit (source base scalefactor : List ℕ) (left right : List Float) : Type 0 where

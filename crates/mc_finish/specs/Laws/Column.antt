@@ -9,7 +9,7 @@ use lib.ListN.{getD}
 use Rattle.fill.specs.ByTurn.{ByTurn}
 use Rattle.mc_finish.specs.Code.Strided.{column}
 use Rattle.mc_finish.specs.Laws.Strided.{length-strided, getD-strided, strided-other}
-use Rattle.mc_finish.specs.Laws.TurnBlock.{turn-block}
+use Rattle.mc_finish.specs.Laws.TurnBlock.{turn-block, turn-skip}
 use Rattle.mc_finish.specs.Code.Column.{columnAt, placeOf, slotOf, placeAt, turnOf}
 
 -- channel, slot and subband of a column's element
@@ -83,3 +83,12 @@ turn-column {A} {z} g {d} {dst} {i} p h =
         let q = slot-below k in
         ap (λ (n : ℕ). getD (column (g t) (columnAt t) dst) n z) (sym w)
         ∙ (getD-strided 32 (g t) (columnAt t) dst z 36 (slotOf k) (lit< tt) q (rw (p .long) (lt-of-lt-of-le (bound (slotOf k) q) (p .room))) ∙ ap (λ (n : ℕ). g n (slotOf k)) (sym e))
+
+-- a column that is not written, where its elements hold already what they are to hold
+pub skip-column :
+    {A : Type 0} {z : A} (g : ℕ → ℕ → A) {d dst : List A} {i : ℕ}
+    → ByTurn z turnOf (λ (k : ℕ). g (placeOf k) (slotOf k)) 3456 d dst i
+    → ((k : ℕ) → k < 3456 → getD d k z ≡ g (placeAt i) (slotOf k))
+    → ByTurn z turnOf (λ (k : ℕ). g (placeOf k) (slotOf k)) 3456 d dst (i + 1)
+skip-column {A} {z} g {d} p same =
+    turn-skip p (λ k l e. same k l ∙ ap (λ (n : ℕ). g n (slotOf k)) (sym (ap placeAt e) ∙ turn-place k))

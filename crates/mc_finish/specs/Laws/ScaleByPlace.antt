@@ -1,18 +1,25 @@
--- The tables of the places give the scaled values of the definition.
+-- The tables of the places give the scaled values of the definition, and the loop over the places gives those of the tables.
 use mathlib.Core.Path.{_≡_, _∙_}
 use mathlib.Core.List.{List}
-use Prim.Native.Nat.{ℕ, _+_, _*_, _/_, _%_, _<_}
+use Prim.Native.Nat.{ℕ, _+_, _*_, _/_, _%_, _≤_, _<_}
 use native.Mathlib.Omega.{arith}
-use lib.Ieee.{nan}
-use lib.ListN.{getD}
-use Rattle.fill.specs.TabLaws.{getD-tab}
+use lib.Ieee.{Float, nan}
+use lib.ListN.{getD, length}
+use borrow.Author.Tests.{eq-eqb, ne-eqb}
+use Rattle.fill.specs.Tab.{tab}
+use Rattle.fill.specs.TabLaws.{getD-tab, all-filled}
+use Rattle.fill.specs.ByTurn.{ByTurn, turn-ends}
+use Rattle.floats.specs.Binary64.{zero64}
 use Rattle.tables.specs.Scalefactor.{scalefactorOf}
 use Rattle.mc_unpack.specs.declared.McSettings.{McSettings}
 use Rattle.mc_unpack.specs.Places.{place, stepsAt, sourceAt, baseAt, stepsOf, sourcesOf, basesOf}
 use Rattle.mc_unpack.specs.Record.{Record}
 use Rattle.mc_finish.specs.Scale.{Base, scaledAt, scaledOf}
-use Rattle.mc_finish.specs.Code.Column.{columnAt, placeOf, slotOf}
-use Rattle.mc_finish.specs.Code.ScaleByPlace.{factorsOf, placeScaled, scaledByPlace}
+use Rattle.mc_finish.specs.Code.Column.{columnAt, placeOf, slotOf, placeAt, turnOf}
+use Rattle.mc_finish.specs.Code.ScaleByPlace.{factorsOf, scaledFrom, placeScaled, scaledByPlace}
+use Rattle.mc_finish.specs.Code.Strided.{column}
+use Rattle.mc_finish.specs.Laws.Column.{turn-column, skip-column}
+use Rattle.mc_finish.specs.Laws.Strided.{strided-same}
 use Rattle.mc_finish.specs.Laws.TabSame.{tab-same}
 
 module _ (s : McSettings) (i : ℕ) (h : i < 96) where
@@ -58,3 +65,32 @@ module _ (s : McSettings) (r : Record) (b : Base) where
       let m : placeOf k % 3 ≡ k / 1152 = omega arith in
       let sb : placeOf k / 3 ≡ k % 32 = omega arith in
       place-scaled (placeOf k) (slotOf k) (omega arith) (omega arith) ∙ rw (m, sb))
+
+-- ---- the loop over the places, on a buffer of +0
+
+module _ (steps source base : List ℕ) (factors raw left right : List Float) where
+  abbrev pub Scaling : List Float → List Float → ℕ → Type 0
+  Scaling d work i = ByTurn nan turnOf (λ (k : ℕ). placeScaled steps source base factors raw left right (placeOf k) (slotOf k)) 3456 d work i
+
+  module _ (d work work′ : List Float) (i : ℕ) (p : Scaling d work i) where
+    pub scaling-more :
+        i < 96
+        → (getD steps (placeAt i) 0 ≡ 0 → ⊥)
+        → (written : List Float)
+        → written ≡ column (scaledFrom (getD source (placeAt i) 0) (getD base (placeAt i) 0) factors raw left right (placeAt i)) (columnAt (placeAt i)) work
+        → work′ ≡ written
+        → Scaling d work′ (i + 1)
+    scaling-more h n written e e′ =
+        rw (e′, e, strided-same {f = scaledFrom (getD source (placeAt i) 0) (getD base (placeAt i) 0) factors raw left right (placeAt i)} {g = placeScaled steps source base factors raw left right (placeAt i)} 32 (columnAt (placeAt i)) work 36 (λ j l. rw (ne-eqb (getD steps (placeAt i) 0) 0 n)))
+        (turn-column (placeScaled steps source base factors raw left right) p h)
+
+    pub scaling-skip : getD steps (placeAt i) 0 ≡ 0 → (n : ℕ) → n ≡ 3456 → d ≡ tab (λ (k : ℕ). zero64) n → work′ ≡ work → Scaling d work′ (i + 1)
+    scaling-skip z n en e e′ =
+        rw e′
+        (skip-column (placeScaled steps source base factors raw left right) p
+        (λ k l. rw (e, en, eq-eqb (getD steps (placeAt i) 0) 0 z) (getD-tab nan (λ (k : ℕ). zero64) 3456 k l)))
+
+  pub scaling-ends : (d work : List Float) (i : ℕ) → Scaling d work i → 96 ≤ i → length d ≡ 3456 → work ≡ scaledByPlace steps source base factors raw left right
+  unfolding scaledByPlace
+  scaling-ends d work i p h e =
+      turn-ends p (λ k l. omega arith) ∙ all-filled (λ (k : ℕ). placeScaled steps source base factors raw left right (placeOf k) (slotOf k)) 3456 d e

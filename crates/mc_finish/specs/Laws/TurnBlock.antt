@@ -1,5 +1,5 @@
 -- A turn of a loop that writes several places at once.
-use mathlib.Core.Path.{_≡_, _∙_}
+use mathlib.Core.Path.{_≡_, refl, _∙_}
 use mathlib.Core.List.{List}
 use mathlib.Core.Logic.{⊎-elim}
 use Prim.Native.Nat.{ℕ, _+_, _-_, _≤_, _<_}
@@ -25,6 +25,14 @@ turn-block {A} {z} {turn} {f} {n} {d} {dst} {next} {t} p long here there =
       kept = λ k l r. there k (λ _ e. omega arith) ∙ p .kept k l (omega arith);
       past = λ k l. there k (λ s e. omega arith) ∙ p .past k l;
     }
+
+-- nothing is written, where the places whose turn it is hold already what they are to hold
+pub turn-skip :
+    {A : Type 0} {z : A} {turn : ℕ → ℕ} {f : ℕ → A} {n : ℕ} {d dst : List A} {t : ℕ}
+    → ByTurn z turn f n d dst t
+    → ((k : ℕ) → k < n → turn k ≡ t → getD d k z ≡ f k)
+    → ByTurn z turn f n d dst (t + 1)
+turn-skip p same = turn-block p refl (λ k l e. p .kept k l (omega arith) ∙ same k l e) (λ k no. refl)
 
 -- the places whose turn does not come hold already what they are to hold
 pub turn-rest :

@@ -1,56 +1,69 @@
--- `output::history` meets its contract. The loop fills the history in order.
-use mathlib.Core.Path.{_∙_, ap}
-use Prim.Native.Nat.{_-_}
+-- `output::history` meets its contract. The loop writes a line of nine a turn.
+use mathlib.Core.Path.{_≡_, _∙_, ap, refl}
+use Prim.Native.Nat.{ℕ, _-_, _/_, _≤_}
 use lib.Dec.{eqb}
+use lib.Ieee.{nan}
 use lib.ListN.{length}
 use borrow.Author.Needs.{needs}
-use Rattle.fill.specs.InOrder.{Filling, starts, more, ends-all}
+use Rattle.fill.specs.ByTurn.{ByTurn, turn-starts}
 use Rattle.mc_finish.specs.Scale.{scaledBase}
 use Rattle.mc_finish.specs.Laws.Chosen.{chosen-long}
 use Rattle.mc_finish.specs.Code.OutputByMix.{historyBy}
-use Rattle.mc_finish.specs.Laws.OutputByMix.{history-kept}
+use Rattle.mc_finish.specs.Laws.OutputByMix.{turn-line, line-long, lines-end, history-kept}
+use Rattle.mc_finish.specs.Laws.Strided.{length-strided}
 use native.Mathlib.Omega.{arith}
 use Rattle.mc_finish.proofs.output.history.Statement.{statement}
 use Rattle.mc_finish.proofs.output.history.Tie as tie
 
 abbrev Inv-loop : tie.InvT-loop
-Inv-loop left right second values₀ i₀ values i = Filling (historyBy left second) 576 values₀ values i
+Inv-loop left right second values₀ line₀ values line = (line ≤ 64) × (length values ≡ 576) × ByTurn nan (λ (k : ℕ). k / 9) (historyBy left second) 576 values₀ values line
 
 abbrev μ-loop : tie.MeasureT-loop
-μ-loop left right second values₀ i₀ values i = 576 - i
+μ-loop left right second values₀ line₀ values line = 64 - line
 
 second-base-requires : tie.Need-second-base-requires Inv-loop μ-loop
 second-base-requires c κs = search needs
 
 loop-holds : tie.Need-loop-holds Inv-loop μ-loop
-loop-holds c = starts (search needs)
+loop-holds c = (omega arith, refl, turn-starts (search needs))
 
-history-at-requires : tie.Need-history-at-requires Inv-loop μ-loop
-history-at-requires c κs =
-    let s = c .before .before .before .before .before in
+cast-chosen : tie.Need-cast-chosen Inv-loop μ-loop
+cast-chosen c = omega arith
+
+chosen-requires : tie.Need-chosen-requires Inv-loop μ-loop
+chosen-requires c κs = search needs
+
+slice-aggregate-store-line : tie.Need-slice-aggregate-store-line Inv-loop μ-loop
+slice-aggregate-store-line c = search needs
+
+mul-store-line : tie.Need-mul-store-line Inv-loop μ-loop
+mul-store-line c = omega arith
+
+store-line-requires : tie.Need-store-line-requires Inv-loop μ-loop
+store-line-requires c κs =
+    let l = c .before .before .before in
+    let s = c .before .before .before .before .before .before .before in
     let a = s .args in
     let long = chosen-long (eqb (a .s .«base_channels») 1) 1 (a .left .now) (a .right .now) (s .pre .0) (s .pre .1) in
-    (s .pre .0, ap length (c .before .before .second-base .ensures) ∙ long, omega arith)
+    (line-long (l .loop .line / 32) _ _ _ (s .pre .0) (ap length (c .before .before .before .before .second-base .ensures) ∙ long) (c .before .chosen .ensures), omega arith, omega (arith, l .loop .inv .1))
 
-mul-values : tie.Need-mul-values Inv-loop μ-loop
-mul-values c = omega arith
-
-array-write-values : tie.Need-array-write-values Inv-loop μ-loop
-array-write-values c = omega arith
-
-add-i : tie.Need-add-i Inv-loop μ-loop
-add-i c = omega arith
+add-line : tie.Need-add-line Inv-loop μ-loop
+add-line c = omega arith
 
 loop-less : tie.Need-loop-less Inv-loop μ-loop
 loop-less c = omega arith
 
 loop-again : tie.Need-loop-again Inv-loop μ-loop
-loop-again c = more (c .before .before .loop .inv) (omega arith) (c .history-at .ensures)
+loop-again c =
+    let l = c .before .before .before .before .before in
+    let a = c .before .before .before .before .before .before .before .before .before .args in
+    let h = c .before .before .before .before .loop-test .taken in
+    (omega arith, ap length (c .before .store-line .ensures) ∙ (length-strided 1 _ _ _ 9 ∙ l .loop .inv .1), rw (c .before .store-line .ensures, c .before .before .before .chosen .ensures) (turn-line (a .left .now) _ (l .loop .inv .2) h))
 
 returns : tie.Need-returns Inv-loop μ-loop
 returns c =
     let a = c .before .before .before .before .before .args in
-    history-kept (a .s) (scaledBase (a .left .now) (a .right .now)) (c .before .before .second-base .ensures) (ends-all (c .before .loop .inv) (omega arith) (search needs))
+    history-kept (a .s) (scaledBase (a .left .now) (a .right .now)) (c .before .before .second-base .ensures) (lines-end (a .left .now) _ _ _ _ (c .before .loop .inv .2) (omega arith) refl)
 
 pub history-spec : {M : Type 1} → statement M
 history-spec =
@@ -60,10 +73,12 @@ history-spec =
     μ-loop
     second-base-requires
     loop-holds
-    history-at-requires
-    mul-values
-    array-write-values
-    add-i
+    cast-chosen
+    chosen-requires
+    slice-aggregate-store-line
+    mul-store-line
+    store-line-requires
+    add-line
     loop-less
     loop-again
     returns)

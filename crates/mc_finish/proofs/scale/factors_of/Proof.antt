@@ -4,8 +4,8 @@ use lib.Ieee.{nan}
 use lib.ListN.{getD}
 use borrow.Author.Needs.{needs}
 use Rattle.fill.specs.InOrder.{Filling, starts, more, ends-all}
-use Rattle.fill.specs.TabLaws.{getD-tab}
 use Rattle.tables.specs.Scalefactor.{scalefactorOf}
+use Rattle.tables.specs.Lookup.{scalefactors-at}
 use Rattle.mc_finish.specs.Code.ScaleByPlace.{factorsOf}
 use native.Mathlib.Omega.{arith}
 use Rattle.mc_finish.proofs.scale.factors_of.Statement.{statement}
@@ -51,7 +51,7 @@ loop-again : tie.Need-loop-again Inv-loop μ-loop
 loop-again c =
     let l = c .before .before .loop in
     let low = c .before .before .before .before .pre (l .i) (c .before .loop-test .taken) in
-    more (l .inv) (omega arith) (rw (c .before .before .before .scalefactor-table .ensures) (getD-tab nan scalefactorOf 63 (getD (c .before .before .before .before .args .scalefactor .now) (l .i) 0) low))
+    more (l .inv) (omega arith) (scalefactors-at _ nan _ (c .before .before .before .scalefactor-table .ensures) low)
 
 returns : tie.Need-returns Inv-loop μ-loop
 unfolding factorsOf

@@ -1,4 +1,4 @@
--- `scale::scale_place` meets its contract, by the step count and the source of the place.
+-- `scale::scale_place` meets its contract, by the source of the place.
 use mathlib.Core.Path.{ap, _∙_}
 use Rattle.mc_finish.specs.Laws.Strided.{strided-same}
 use lib.ListN.{length}
@@ -14,15 +14,6 @@ mul-at c = search needs
 
 add-at : tie.Need-add-at
 add-at c = search needs
-
-clear-column-requires : tie.Need-clear-column-requires
-clear-column-requires c κs = search needs
-
-same-length : tie.Need-same-length
-same-length c = search needs
-
-returns : tie.Need-returns
-returns c = rw (c .before .before .before .before .if1 .taken) (c .before .before .clear-column .ensures)
 
 scale-column-requires : tie.Need-scale-column-requires
 scale-column-requires c κs = search needs
@@ -42,23 +33,23 @@ add-scale-column c = search needs
 scale-column-requires-3 : tie.Need-scale-column-requires-3
 scale-column-requires-3 c κs = search needs
 
+same-length : tie.Need-same-length
+same-length c = search needs
+
+returns : tie.Need-returns
+returns c = c .before .before .scale-column .ensures ∙ strided-same 32 _ _ 36 (λ j l. rw (c .before .before .before .before .match .keys1))
+
 same-length-2 : tie.Need-same-length-2
 same-length-2 c = search needs
 
 returns-2 : tie.Need-returns-2
-returns-2 c = c .before .before .scale-column .ensures ∙ strided-same 32 _ _ 36 (λ j l. rw (ne-eqb _ 0 (c .before .before .before .before .before .if1 .left), c .before .before .before .before .match .keys1))
+returns-2 c = c .before .before .scale-column2 .ensures ∙ strided-same 32 _ _ 36 (λ j l. rw (c .before .before .before .before .before .match .keys2, c .before .before .before .before .chosen .ensures))
 
 same-length-3 : tie.Need-same-length-3
 same-length-3 c = search needs
 
 returns-3 : tie.Need-returns-3
-returns-3 c = c .before .before .scale-column2 .ensures ∙ strided-same 32 _ _ 36 (λ j l. rw (ne-eqb _ 0 (c .before .before .before .before .before .before .if1 .left), c .before .before .before .before .before .match .keys2, c .before .before .before .before .chosen .ensures))
-
-same-length-4 : tie.Need-same-length-4
-same-length-4 c = search needs
-
-returns-4 : tie.Need-returns-4
-returns-4 c = c .before .before .scale-column3 .ensures ∙ strided-same 32 _ _ 36 (λ j l. rw (ne-eqb _ 0 (c .before .before .before .before .before .if1 .left), ne-eqb _ 3 (c .before .before .before .before .match .rest .0 .1), ne-eqb _ 4 (c .before .before .before .before .match .rest .1)))
+returns-3 c = c .before .before .scale-column3 .ensures ∙ strided-same 32 _ _ 36 (λ j l. rw (ne-eqb _ 3 (c .before .before .before .before .match .rest .0 .1), ne-eqb _ 4 (c .before .before .before .before .match .rest .1)))
 
 pub scale-place-spec : {M : Type 1} → statement M
 scale-place-spec =
@@ -66,18 +57,15 @@ scale-place-spec =
     (tie.spec
     mul-at
     add-at
-    clear-column-requires
-    same-length
-    returns
     scale-column-requires
     chosen-requires
     scale-column-requires-2
     mul-scale-column
     add-scale-column
     scale-column-requires-3
+    same-length
+    returns
     same-length-2
     returns-2
     same-length-3
-    returns-3
-    same-length-4
-    returns-4)
+    returns-3)

@@ -1,27 +1,27 @@
--- `samples::clear` meets its contract.
+-- `clear` meets its contract.
 use mathlib.Core.Path.{refl}
 use Prim.Native.Nat.{ℕ, _-_}
 use native.Mathlib.Omega.{arith}
 use lib.ListN.{length}
 use Rattle.fill.specs.InOrder.{Filling, starts, more, ends-all}
 use Rattle.floats.specs.Binary64.{zero64}
-use Rattle.mc_unpack.proofs.samples.clear.Statement.{statement}
-use Rattle.mc_unpack.proofs.samples.clear.Tie as tie
+use Rattle.fill.proofs.clear.Statement.{statement}
+use Rattle.fill.proofs.clear.Tie as tie
 
 abbrev Inv-loop : tie.InvT-loop
-Inv-loop raw₀ k₀ k-end raw k = Filling (λ (j : ℕ). zero64) (length raw₀) raw₀ raw k
+Inv-loop values₀ k₀ k-end values k = Filling (λ (j : ℕ). zero64) (length values₀) values₀ values k
 
 abbrev μ-loop : tie.MeasureT-loop
-μ-loop raw₀ k₀ k-end raw k = length raw₀ - k
+μ-loop values₀ k₀ k-end values k = length values₀ - k
 
 loop-holds : tie.Need-loop-holds Inv-loop μ-loop
 loop-holds c = starts (omega arith)
 
-mul-raw : tie.Need-mul-raw Inv-loop μ-loop
-mul-raw c = omega arith
+mul-values : tie.Need-mul-values Inv-loop μ-loop
+mul-values c = omega arith
 
-slice-write-raw : tie.Need-slice-write-raw Inv-loop μ-loop
-slice-write-raw c = omega arith
+slice-write-values : tie.Need-slice-write-values Inv-loop μ-loop
+slice-write-values c = omega arith
 
 add-k : tie.Need-add-k Inv-loop μ-loop
 add-k c = omega arith
@@ -45,8 +45,8 @@ clear-spec =
     Inv-loop
     μ-loop
     loop-holds
-    mul-raw
-    slice-write-raw
+    mul-values
+    slice-write-values
     add-k
     loop-less
     loop-again
