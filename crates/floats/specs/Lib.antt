@@ -20,4 +20,6 @@ pub mod Centred
 pub mod Shifted
 pub mod Gap
 pub mod OneToOne
+-- division by a power of two
+pub mod Inverse
 pub mod Binary64

@@ -8,14 +8,16 @@ use lib.IntN.{ℤ, pos, negsuc, _-ℤ_}
 use lib.Signed.{mag}
 use lib.Dec.{T, leb, ltb, leb→le, nleb→lt, ltb→lt, nltb→le}
 use lib.Pow.{pow-mono, pow-pos, pow-lt}
-use lib.Ieee.{binary64, minus, div, ofInt}
+use lib.Ieee.{binary64, minus, mul, div, ofBits, ofInt}
 use mir.Syntax.{w32}
 use mir.Val.{SFits, toZ, ofZ}
 use mir.ValLaws.{toZ-pos, toZ-ofZ}
 use Rattle.floats.specs.Raw.{centred}
+use Rattle.floats.specs.Inverse.{by-inverse}
 use Rattle.requant.specs.Requant.{fraction}
 use Rattle.requant.specs.Flip.{in-halves}
 use Rattle.requant.specs.AsRaw.{fraction-centred}
+use Rattle.requant.proofs.Literal.{literal-1}
 
 -- 1 << a
 pub one-bit : (a : ℕ) → a < 32 → 1 * 2 ^ a % 4294967296 ≡ 2 ^ a
@@ -77,3 +79,10 @@ module _ (n code : ℕ) (N : 1 ≤ n) (N' : n ≤ 16) (K : code < 2 ^ n) where
   pub quotient : div binary64 (ofInt binary64 (toZ w32 (ofZ w32 (toZ w32 code -ℤ toZ w32 (1 * 2 ^ (n - 1) % 4294967296))))) (ofInt binary64 (pos (1 * 2 ^ (n - 1) % 4294967296))) ≡ fraction n code
   unfolding centred
   quotient = ap₂ (λ (x y : ℤ). div binary64 (ofInt binary64 x) (ofInt binary64 y)) read-back (ap pos msb) ∙ sym (fraction-centred n code N K)
+
+  -- the same by the inverse of the power
+  pub product : mul binary64 (ofInt binary64 (toZ w32 (ofZ w32 (toZ w32 code -ℤ toZ w32 (1 * 2 ^ (n - 1) % 4294967296))))) (div binary64 (ofBits binary64 4607182418800017408) (ofInt binary64 (pos (1 * 2 ^ (n - 1) % 4294967296)))) ≡ fraction n code
+  product = rw (literal-1) (rw msb (by-inverse _ (n - 1) (less n N'))) ∙ quotient
+    where
+      less : (n : ℕ) → n ≤ 16 → n - 1 < 16
+      less n h = omega arith

@@ -5,7 +5,7 @@ ghost use Rattle.requant.specs.Requant.{fraction, requantized, degrouped
 use bitalloc::QuantClass;
 
 // A code of n bits as a fraction: its first bit inverted, then read in two's complement, which is the code less
-// 2^(n-1), and over 2^(n-1).
+// 2^(n-1), and over 2^(n-1). The inverse of a power of two is exact, and a product is quicker than a quotient.
 fn fraction_of(code: u32, n: u32) -> f64
     requires { ⌜ (1 ≤ n) × (n ≤ 16) ⌝ }
     requires { ⌜ code < 2 ^ n ⌝ }
@@ -13,7 +13,7 @@ fn fraction_of(code: u32, n: u32) -> f64
 {
     let msb: u32 = 1 << (n - 1);
     let v = code as i32 - msb as i32;
-    v as f64 / msb as f64
+    v as f64 * (1.0 / msb as f64)
 }
 
 // The raw value of a sample's code: s'' = C * (s''' + D).

@@ -1,6 +1,6 @@
--- `requant::fraction_of` meets its contract: the difference that it divides is the code with its first bit inverted, in two's complement.
+-- `requant::fraction_of` meets its contract: its difference is the code with its first bit inverted, in two's complement, and the inverse of a power of two is exact.
 use borrow.Author.Needs.{needs}
-use Rattle.requant.proofs.Machine.{code-fits, msb-fits, difference-fits, quotient}
+use Rattle.requant.proofs.Machine.{code-fits, msb-fits, difference-fits, product}
 use Rattle.requant.proofs.fraction_of.Statement.{statement}
 use Rattle.requant.proofs.fraction_of.Tie as tie
 
@@ -26,7 +26,7 @@ int-to-float-result-2 : tie.Need-int-to-float-result-2
 int-to-float-result-2 c = search needs
 
 returns : tie.Need-returns
-returns c = search quotient
+returns c = search product
 
 pub fraction-of-spec : {M : Type 1} → statement M
 fraction-of-spec =
