@@ -1,3 +1,5 @@
 -- The definitions of the exported functions, and their laws.
 pub mod Parts
 pub mod PartsLaws
+pub mod Payload
+pub mod PayloadLaws
