@@ -83,8 +83,7 @@ fn write_delays(codes: &[u8; 192], out: &mut [u8])
 {
     let delays = mc_unpack::delays(codes);
     for k in 0usize..48 {
-        let group = delays[k / 6];
-        out[k] = group[k % 6];
+        out[k] = delays[k / 6][k % 6];
     }
 }
 
@@ -95,9 +94,7 @@ fn write_coefs(predsi: &[u8; 56], codes: &[u8; 192], out: &mut [f64])
 {
     let coefs = mc_unpack::coefs(predsi, codes);
     for k in 0usize..144 {
-        let group = coefs[k / 18];
-        let row = group[k / 3 % 6];
-        out[k] = row[k % 3];
+        out[k] = coefs[k / 18][k / 3 % 6][k % 3];
     }
 }
 

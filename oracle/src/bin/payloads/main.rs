@@ -198,6 +198,8 @@ fn main() -> ExitCode {
     }
     let (payloads, seconds) = (run.payloads, begin.elapsed().as_secs_f64());
     println!("payloads, seed {seed}: {payloads} compared in {seconds:.0} s, no difference");
+    let nothing = std::iter::once(Plan::plain(2, 0, 0));
+    println!("{}", timing::line("nothing transmitted", nothing));
     let shapes = (0..Plan::SHAPES).map(Plan::random);
     println!("{}", timing::line("one of each shape", shapes));
     println!("{}", timing::line("longest", (0..8).map(longest)));

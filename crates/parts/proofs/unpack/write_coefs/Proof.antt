@@ -23,26 +23,26 @@ coefs-requires c κs = search needs
 loop-holds : tie.Need-loop-holds Inv-loop μ-loop
 loop-holds c = starts (omega (arith, c .before .before .pre))
 
-mul-group : tie.Need-mul-group Inv-loop μ-loop
-mul-group c = omega arith
-
-array-copy-out-group : tie.Need-array-copy-out-group Inv-loop μ-loop
-array-copy-out-group c = omega arith
-
-mul-row : tie.Need-mul-row Inv-loop μ-loop
-mul-row c = omega arith
-
-array-copy-out-row : tie.Need-array-copy-out-row Inv-loop μ-loop
-array-copy-out-row c = omega arith
-
 mul-out : tie.Need-mul-out Inv-loop μ-loop
 mul-out c = omega arith
 
-array-read-out : tie.Need-array-read-out Inv-loop μ-loop
-array-read-out c = omega arith
-
 mul-out-2 : tie.Need-mul-out-2 Inv-loop μ-loop
 mul-out-2 c = omega arith
+
+mul-out-3 : tie.Need-mul-out-3 Inv-loop μ-loop
+mul-out-3 c = omega arith
+
+index-1-out : tie.Need-index-1-out Inv-loop μ-loop
+index-1-out c = omega arith
+
+index-2-out : tie.Need-index-2-out Inv-loop μ-loop
+index-2-out c = omega arith
+
+index-3-out : tie.Need-index-3-out Inv-loop μ-loop
+index-3-out c = omega arith
+
+mul-out-4 : tie.Need-mul-out-4 Inv-loop μ-loop
+mul-out-4 c = omega arith
 
 slice-write-out : tie.Need-slice-write-out Inv-loop μ-loop
 slice-write-out c = omega arith
@@ -54,7 +54,7 @@ loop-less : tie.Need-loop-less Inv-loop μ-loop
 loop-less c = omega arith
 
 loop-again : tie.Need-loop-again Inv-loop μ-loop
-loop-again c = more (c .before .before .before .loop .inv) (omega arith) refl
+loop-again c = more (c .before .before .loop .inv) (omega arith) refl
 
 same-length : tie.Need-same-length Inv-loop μ-loop
 same-length c = c .before .loop .inv .long
@@ -71,13 +71,13 @@ write-coefs-spec =
     μ-loop
     coefs-requires
     loop-holds
-    mul-group
-    array-copy-out-group
-    mul-row
-    array-copy-out-row
     mul-out
-    array-read-out
     mul-out-2
+    mul-out-3
+    index-1-out
+    index-2-out
+    index-3-out
+    mul-out-4
     slice-write-out
     add-k
     loop-less

@@ -22,14 +22,14 @@ delays-requires c κs = search needs
 loop-holds : tie.Need-loop-holds Inv-loop μ-loop
 loop-holds c = starts (omega (arith, c .before .before .pre))
 
-mul-group : tie.Need-mul-group Inv-loop μ-loop
-mul-group c = omega arith
+mul-out : tie.Need-mul-out Inv-loop μ-loop
+mul-out c = omega arith
 
-array-copy-out-group : tie.Need-array-copy-out-group Inv-loop μ-loop
-array-copy-out-group c = omega arith
+index-1-out : tie.Need-index-1-out Inv-loop μ-loop
+index-1-out c = omega arith
 
-array-read-out : tie.Need-array-read-out Inv-loop μ-loop
-array-read-out c = omega arith
+index-2-out : tie.Need-index-2-out Inv-loop μ-loop
+index-2-out c = omega arith
 
 slice-write-out : tie.Need-slice-write-out Inv-loop μ-loop
 slice-write-out c = omega arith
@@ -58,9 +58,9 @@ write-delays-spec =
     μ-loop
     delays-requires
     loop-holds
-    mul-group
-    array-copy-out-group
-    array-read-out
+    mul-out
+    index-1-out
+    index-2-out
     slice-write-out
     add-k
     loop-less
