@@ -2,4 +2,5 @@
 pub mod Parts
 pub mod PartsLaws
 pub mod Payload
+pub mod PayloadCode
 pub mod PayloadLaws

@@ -8,10 +8,11 @@ use lib.ListN.{length, getD}
 use Rattle.bits.specs.Syntax.{plain, Outcome, accepted, refused}
 use Rattle.fill.specs.Tab.{tab}
 use Rattle.mc_head.specs.Lent.{stringFits, headOf}
-use Rattle.mc_unpack.specs.Answer
-use Rattle.mc_unpack.specs.Answer.{Tables, loanBy, unpackCall}
-use Rattle.mc_unpack.specs.Unpack.{loanFits}
-use Rattle.mc_unpack.specs.Values.{delaysFrom, coefsFrom}
+use Rattle.mc_unpack.specs.Answer.{loanBy}
+use Rattle.mc_unpack.specs.Payload.{Codes}
+use Rattle.mc_unpack.specs.Record.{lfScalefactorOf, recordOf}
+use Rattle.mc_unpack.specs.Unpack.{loanFits, settingsOf, unpackOf}
+use Rattle.mc_unpack.specs.declared.McSettings.{McSettings}
 use Rattle.parts.specs.Parts.{Head, packedRefusal}
 
 -- what the call is lent, beside the buffers
@@ -84,13 +85,13 @@ lentBy l scfsi delays coefs scalefactors raw lfe =
 abbrev pub lentFits : Lent → Buffers → Bool
 lentFits l w = lentBy l (length (w .scfsi)) (length (w .delays)) (length (w .coefs)) (length (w .scalefactors)) (length (w .raw)) (length (w .lfe))
 
--- ---- the record's tables, after a refusal as they were
+-- ---- the record, one entry after another
 
 -- the first n entries of a table
 unfoldable pub entries : ℕ → List ℕ → List ℕ
 entries n table = tab (λ (k : ℕ). getD table k 0) n
 
--- delays by group and predictor, one after another
+-- delays by group and predictor
 unfoldable pub flatDelays : List (List ℕ) → List ℕ
 flatDelays d = tab (λ (k : ℕ). getD (getD d (k / 6) []) (k % 6) 0) 48
 
@@ -98,39 +99,24 @@ flatDelays d = tab (λ (k : ℕ). getD (getD d (k / 6) []) (k % 6) 0) 48
 unfoldable pub flatCoefs : List (List (List Float)) → List Float
 flatCoefs c = tab (λ (k : ℕ). getD (getD (getD c (k / 18) []) (k / 3 % 6) []) (k % 3) nan) 144
 
-abbrev pub scfsiAfter : Outcome Tables → List ℕ → List ℕ
-scfsiAfter (accepted t used) old = entries 96 (t .0)
-scfsiAfter (refused x) old = old
-
-abbrev pub delaysAfter : Outcome Tables → List ℕ → List ℕ
-delaysAfter (accepted t used) old = flatDelays (delaysFrom (t .1 .0))
-delaysAfter (refused x) old = old
-
-abbrev pub coefsAfter : List ℕ → Outcome Tables → List Float → List Float
-coefsAfter predsi (accepted t used) old = flatCoefs (coefsFrom predsi (t .1 .0))
-coefsAfter predsi (refused x) old = old
-
-abbrev pub scalefactorsAfter : Outcome Tables → List ℕ → List ℕ
-scalefactorsAfter (accepted t used) old = entries 288 (t .1 .1 .1)
-scalefactorsAfter (refused x) old = old
-
 -- ---- the whole call
 
--- the low 8 bits are the refusal's number, 0 for none; the next 24 the used payload bits, or the group; the rest the LFE's scalefactor index, or the code
-abbrev pub packedTables : Outcome Tables → ℕ
-packedTables (accepted t used) = used % 16777216 * 256 + t .1 .1 .0 * 4294967296
-packedTables (refused x) = packedRefusal x
+-- number 0 in the low 8 bits, the used payload bits in the next 24, and the LFE's scalefactor index in the rest
+abbrev pub packedUsed : ℕ → ℕ → ℕ
+packedUsed used lfFactor = used % 16777216 * 256 + lfFactor * 4294967296
 
--- after unpacking under the coefficient counts of a head; a refusal has left raw and LFE values as they were
-unfoldable pub leftBy : List ℕ → Buffers → Answer.After → After
-leftBy predsi w a =
-    afterBy (packedTables (a .outcome))
-    (buffersFrom (scfsiAfter (a .outcome) (w .scfsi)) (delaysAfter (a .outcome) (w .delays)) (coefsAfter predsi (a .outcome) (w .coefs)) (scalefactorsAfter (a .outcome) (w .scalefactors)) (a .raw) (a .lfe))
+-- what a payload of these codes leaves; a refusal leaves every buffer as it was
+unfoldable pub leftBy : McSettings → Buffers → Outcome Codes → After
+leftBy s w (accepted c used) =
+    let r = recordOf s c in
+    afterBy (packedUsed used (lfScalefactorOf c))
+    (buffersFrom (entries 96 (c .0)) (flatDelays (r .delay)) (flatCoefs (r .coef)) (entries 288 (r .scalefactor)) (r .raw) (r .lfe))
+leftBy s w (refused x) = afterBy (packedRefusal x) w
 
 unfoldable pub underHead : Lent → Buffers → Head → After
 underHead l w (accepted (h, (word, status)) used) =
-    leftBy (status .«mc_prediction») w
-    (unpackCall (loanBy (l .rate) (l .baseChannels) h status (l .lfe) (l .steps) (l .baseSteps)) (l .payload) (l .payloadBits) (w .raw) (w .lfe))
+    let loan = loanBy (l .rate) (l .baseChannels) h status (l .lfe) (l .steps) (l .baseSteps) in
+    leftBy (settingsOf loan) w (unpackOf loan (l .payload) (l .payloadBits))
 underHead l w (refused x) = afterBy (packedRefusal x) w
 
 unfoldable pub partOf : Lent → Buffers → After

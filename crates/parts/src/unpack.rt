@@ -1,9 +1,11 @@
 // Unpacking a payload under its head, for other languages. The function takes any input.
 ghost use mathlib.Core.Path.{_≡_};
 ghost use lib.ListN.{length};
-ghost use Rattle.mc_unpack.specs.Answer.{loanBy, answered, valuesOf, unpackCall};
+ghost use Rattle.mc_unpack.specs.Answer.{loanBy, answered, valuesOf};
+ghost use Rattle.mc_unpack.specs.Unpack.{settingsOf, unpackOf};
 ghost use Rattle.mc_unpack.specs.Values.{delaysFrom, coefsFrom};
-ghost use Rattle.parts.specs.Payload.{lentOf, buffersFrom, afterBy, roomFits, lentBy, entries, flatDelays, flatCoefs, scfsiAfter, delaysAfter, coefsAfter, scalefactorsAfter, packedTables, leftBy, partOf};
+ghost use Rattle.parts.specs.Payload.{lentOf, buffersFrom, afterBy, roomFits, lentBy, entries, flatDelays, flatCoefs, leftBy, partOf};
+ghost use Rattle.parts.specs.PayloadCode.{scfsiAfter, delaysAfter, coefsAfter, scalefactorsAfter, packedTables};
 use crate::pack_refusal;
 use mc_config::McHeader;
 use mc_error::McError;
@@ -153,8 +155,8 @@ fn unpack_under(
     raw: &mut [f64],
     lfe: &mut [f64],
 ) -> u64
-    requires { ⌜ (length (now scfsi) ≡ 96) × (length (now delays) ≡ 48) × (length (now coefs) ≡ 144) × (length (now scalefactors) ≡ 288) ⌝ }
-    ensures { λ r. ⌜ afterBy r (buffersFrom (now (scfsi .exit)) (now (delays .exit)) (now (coefs .exit)) (now (scalefactors .exit)) (now (raw .exit)) (now (lfe .exit))) ≡ leftBy (status .«mc_prediction») (buffersFrom (now (scfsi .entry)) (now (delays .entry)) (now (coefs .entry)) (now (scalefactors .entry)) (now (raw .entry)) (now (lfe .entry))) (unpackCall (loanBy rate «base_channels» header status «lfe_allocation» (now («nb_steps» .entry)) (now («base_nb_steps» .entry))) (now (payload .entry)) «payload_bits» (now (raw .entry)) (now (lfe .entry))) ⌝ }
+    requires { ⌜ (length (now scfsi) ≡ 96) × (length (now delays) ≡ 48) × (length (now coefs) ≡ 144) × (length (now scalefactors) ≡ 288) × (length (now raw) ≡ 3456) × (length (now lfe) ≡ 12) ⌝ }
+    ensures { λ r. ⌜ afterBy r (buffersFrom (now (scfsi .exit)) (now (delays .exit)) (now (coefs .exit)) (now (scalefactors .exit)) (now (raw .exit)) (now (lfe .exit))) ≡ leftBy (settingsOf (loanBy rate «base_channels» header status «lfe_allocation» (now («nb_steps» .entry)) (now («base_nb_steps» .entry)))) (buffersFrom (now (scfsi .entry)) (now (delays .entry)) (now (coefs .entry)) (now (scalefactors .entry)) (now (raw .entry)) (now (lfe .entry))) (unpackOf (loanBy rate «base_channels» header status «lfe_allocation» (now («nb_steps» .entry)) (now («base_nb_steps» .entry))) (now (payload .entry)) «payload_bits») ⌝ }
 {
     let predsi = status.mc_prediction;
     let u = unpack(

@@ -1,5 +1,6 @@
 -- `parts::unpack::unpack_under` meets its contract.
-use Rattle.mc_unpack.specs.Answer.{loanBy, unpackCall}
+use mathlib.Core.Path.{refl}
+use Rattle.mc_unpack.specs.Answer.{loanBy}
 use Rattle.parts.specs.PayloadLaws.{left-by}
 use borrow.Author.Needs.{needs}
 use Rattle.parts.proofs.unpack.unpack_under.Statement.{statement}
@@ -36,9 +37,10 @@ returns : tie.Need-returns
 returns c =
     let w = c .before .before .before .before .before .before .before .before .before in
     let u = w .before .before .before .before .before .before .before .before .before .before in
+    let p = u .before .before .before .before .before .before .before .before .before .before .before .before .before .pre in
     let a = u .before .before .before .before .before .before .before .before .before .before .before .before .before .args in
     let l = loanBy (a .rate) (a .base-channels) (a .header) (a .status) (a .lfe-allocation) (a .nb-steps .now) (a .base-nb-steps .now) in
-    left-by (u .unpack .result) (a .status .«mc_prediction») (a .scfsi .now) (a .delays .now) (a .coefs .now) (a .scalefactors .now) (a .raw .now) (a .lfe .now) _ _ (unpackCall l (a .payload .now) (a .payload-bits) (a .raw .now) (a .lfe .now)) (u .unpack .ensures) _ _ _ _ (w .write-tables .ensures) _ (c .pack-tables .ensures)
+    left-by (u .unpack .result) (a .status .«mc_prediction») (a .scfsi .now) (a .delays .now) (a .coefs .now) (a .scalefactors .now) (a .raw .now) (a .lfe .now) _ _ _ _ _ _ (w .write-tables .ensures) _ (c .pack-tables .ensures) l refl (p .4) (p .5) (a .payload .now) (a .payload-bits) (u .unpack .ensures)
 
 pub unpack-under-spec : {M : Type 1} → statement M
 unpack-under-spec =
