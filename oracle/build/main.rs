@@ -50,6 +50,7 @@ fn main() {
     }
     if env::var_os("CARGO_FEATURE_PARTS").is_some() {
         link("heads", "parts");
+        link("payloads", "parts");
     }
 }
 

@@ -4,7 +4,7 @@ use mathlib.Core.List.{List, [], _∷_}
 use Prim.Native.Nat.{ℕ, _+_, _*_, _-_, _/_, _%_}
 use lib.Dec.{eqb, ltb}
 use lib.ListN.{getD}
-use Rattle.bits.specs.Syntax.{Outcome, accepted, refused, plain}
+use Rattle.bits.specs.Syntax.{Refusal, Outcome, accepted, refused, plain}
 use Rattle.fill.specs.Tab.{tab}
 use Rattle.mc_config.specs.declared.McHeader.{McHeader}
 use Rattle.mc_head.specs.Lent.{headOf}
@@ -54,10 +54,14 @@ Head = Outcome (McHeader × (ℕ × McStatus))
 unfoldable pub headFor : List ℕ → ℕ → ℕ → ℕ → Head
 headFor bytes bits baseChannels room = cond (eqb room 110) (headOf bytes bits baseChannels) (refused (plain 6))
 
--- the low 8 bits are the refusal's number, 0 for none; the next 24 the used bits, or the group; the rest 0, or the code
+-- the low 8 bits are the refusal's number, the next 24 the group, the rest the code
+abbrev pub packedRefusal : Refusal → ℕ
+packedRefusal x = x .number + x .group % 16777216 * 256 + x .code * 4294967296
+
+-- a refusal; or number 0 with the used bits in the place of the group
 abbrev pub packedHead : Head → ℕ
 packedHead (accepted values used) = used % 16777216 * 256
-packedHead (refused x) = x .number + x .group % 16777216 * 256 + x .code * 4294967296
+packedHead (refused x) = packedRefusal x
 
 -- what the lent bytes hold after the call: after a refusal what they held before
 abbrev pub bytesAfter : Head → List ℕ → List ℕ

@@ -2,7 +2,7 @@
 use mathlib.Core.Path.{_≡_, refl, sym, ap, _∙_}
 use mathlib.Core.Bool.{Bool, true, false}
 use mathlib.Core.List.{List, [], _∷_}
-use Prim.Native.Nat.{ℕ, _+_, _*_, _/_, _%_}
+use Prim.Native.Nat.{ℕ, _*_, _/_, _%_}
 use mir.Val.{boolByte}
 use borrow.Author.Tests.{eq-eqb, ne-eqb}
 use Rattle.bits.specs.Syntax.{refused, plain}
@@ -15,7 +15,7 @@ use Rattle.mc_head.specs.Lent.{headOf}
 use Rattle.mc_head.specs.declared.HeadAnswer.the-variants.{Accepted, Refused}
 use Rattle.mc_head.specs.declared.McHead.{McHead}
 use Rattle.mc_head.specs.declared.McStatus.{McStatus}
-use Rattle.parts.specs.Parts.{Head, flag, firstBytes, byteOf, headByte, headFor, packedHead, bytesAfter}
+use Rattle.parts.specs.Parts.{Head, flag, firstBytes, byteOf, headByte, headFor, packedRefusal, packedHead, bytesAfter}
 
 flag-byte : (b : Bool) → boolByte b ≡ flag b
 flag-byte true = refl
@@ -54,9 +54,8 @@ module _ (r : McHead) where
   pub packs-accepted : (used : ℕ) → r .answer ≡ Accepted used → used % 16777216 * 256 ≡ packedHead (outcomeOf r)
   packs-accepted used q = rw q
 
-  pub packs-refused : (e : McError) (n g k : ℕ) → r .answer ≡ Refused e → n ≡ refusalOf e .number → g ≡ refusalOf e .group → k ≡ refusalOf e .code
-      → n + g % 16777216 * 256 + k * 4294967296 ≡ packedHead (outcomeOf r)
-  packs-refused e n g k q en eg ek = rw (q, en, eg, ek)
+  pub packs-refused : (e : McError) (n : ℕ) → r .answer ≡ Refused e → n ≡ packedRefusal (refusalOf e) → n ≡ packedHead (outcomeOf r)
+  packs-refused e n q en = rw q en
 
   pub writes-accepted : (used : ℕ) (old out : List ℕ) → r .answer ≡ Accepted used
       → out ≡ tab (headByte (r .header) (r .«check_word») (r .status)) 110 → out ≡ bytesAfter (outcomeOf r) old

@@ -1,15 +1,19 @@
-// Reading a head, for other languages. The function takes any input.
+// Reading a head, and unpacking a payload under it, for other languages. The functions take any input.
 ghost use mathlib.Core.Path.{_≡_};
 ghost use Prim.Native.Nat.{_<_};
 ghost use lib.ListN.{length};
 ghost use Rattle.fill.specs.Tab.{tab};
+ghost use Rattle.mc_error.specs.Error.{refusalOf};
 ghost use Rattle.mc_head.specs.Answer.{outcomeOf};
-ghost use Rattle.parts.specs.Parts.{firstBytes, byteOf, headByte, headFor, packedHead, bytesAfter};
+ghost use Rattle.parts.specs.Parts.{firstBytes, byteOf, headByte, headFor, packedRefusal, packedHead, bytesAfter};
 use mc_config::McHeader;
+use mc_error::McError;
 use mc_head::HeadAnswer;
 use mc_head::McHead;
 use mc_head::McStatus;
 use mc_head::read_head;
+
+mod unpack;
 
 // The bytes of a head's fields.
 pub const HEAD_BYTES: usize = 110;
@@ -97,6 +101,13 @@ fn write_head(head: McHead, out: &mut [u8])
     }
 }
 
+// A refusal as one number.
+fn pack_refusal(e: McError) -> u64
+    ensures { λ r. ⌜ r ≡ packedRefusal (refusalOf e) ⌝ }
+{
+    e.number() as u64 + (e.group() % 16777216) as u64 * 256 + e.code() as u64 * 4294967296
+}
+
 // The answer as one number.
 fn pack(head: McHead) -> u64
     ensures { λ r. ⌜ r ≡ packedHead (outcomeOf head) ⌝ }
@@ -104,9 +115,7 @@ fn pack(head: McHead) -> u64
     let answer = head.answer;
     match answer {
         HeadAnswer::Accepted(used) => (used % 16777216) as u64 * 256,
-        HeadAnswer::Refused(e) => {
-            e.number() as u64 + (e.group() % 16777216) as u64 * 256 + e.code() as u64 * 4294967296
-        }
+        HeadAnswer::Refused(e) => pack_refusal(e),
     }
 }
 

@@ -13,38 +13,14 @@ mul-result c = search needs
 enum-known-answer-2 : tie.Need-enum-known-answer-2
 enum-known-answer-2 c = search needs
 
-number-requires : tie.Need-number-requires
-number-requires c κs = search needs
-
-cast-result : tie.Need-cast-result
-cast-result c = search needs
-
-group-requires : tie.Need-group-requires
-group-requires c κs = search needs
-
-mul-result-2 : tie.Need-mul-result-2
-mul-result-2 c = search needs
-
-add-result : tie.Need-add-result
-add-result c = search needs
-
-code-requires : tie.Need-code-requires
-code-requires c κs = search needs
-
-cast-result-2 : tie.Need-cast-result-2
-cast-result-2 c = search needs
-
-mul-result-3 : tie.Need-mul-result-3
-mul-result-3 c = search needs
-
-add-result-2 : tie.Need-add-result-2
-add-result-2 c = search needs
+pack-refusal-requires : tie.Need-pack-refusal-requires
+pack-refusal-requires c κs = search needs
 
 returns : tie.Need-returns
 returns c = packs-accepted _ (c .before .answer .given .0 .0) (c .before .answer .given .1)
 
 returns-2 : tie.Need-returns-2
-returns-2 c = packs-refused _ (c .before .before .before .before .answer2 .given .0 .0) _ _ _ (c .before .before .before .before .answer2 .given .1) (c .before .before .number .ensures) (c .before .group .ensures) (c .code .ensures)
+returns-2 c = packs-refused _ (c .before .before .answer2 .given .0 .0) _ (c .before .before .answer2 .given .1) (c .pack-refusal .ensures)
 
 pub pack-spec : {M : Type 1} → statement M
 pack-spec =
@@ -53,14 +29,6 @@ pack-spec =
     enum-known-answer
     mul-result
     enum-known-answer-2
-    number-requires
-    cast-result
-    group-requires
-    mul-result-2
-    add-result
-    code-requires
-    cast-result-2
-    mul-result-3
-    add-result-2
+    pack-refusal-requires
     returns
     returns-2)
