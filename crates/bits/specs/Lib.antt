@@ -9,6 +9,8 @@ pub mod Theorems
 pub mod Answer
 pub mod Cursor
 pub mod CursorLaws
+pub mod Three
+pub mod ThreeLaws
 pub mod Ran
 pub mod Yields
 pub mod Width

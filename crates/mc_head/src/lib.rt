@@ -17,6 +17,8 @@ use status::read_status;
 mod header;
 mod status;
 
+pub use header::bits_if;
+
 // mc_composite_status_info() as read; what a field of no bits would hold is 0.
 pub struct McStatus {
     pub tc_sbgr_select: bool,

@@ -10,9 +10,11 @@ use borrow.Author.Tests.{eq-eqb, ne-eqb}
 use Rattle.bits.specs.Syntax.{Outcome, done, times}
 use Rattle.bits.specs.Cursor.{step, runFrom}
 use Rattle.bits.specs.CursorLaws.{advance, loop-next, times-over}
+use Rattle.bits.specs.Three.{threeSteps}
 use Rattle.bits.specs.Ran.{Ran}
 use Rattle.bits.specs.Table.{set3}
 use Rattle.bits.specs.declared.Cursor.{Cursor}
+use Rattle.bits.specs.declared.ThreeReads.{ThreeReads}
 use Rattle.fill.specs.TabLaws.{getD-tab}
 use Rattle.bitalloc.specs.Classes.{grouped, bitsPerCodeword}
 use Rattle.mc_head.specs.Head.{bitsIf}
@@ -49,15 +51,18 @@ group-at own groups e i h = rw e (getD-tab false (λ k. grouped (getD own k 0)) 
 module _ (bytes : List ℕ) (limit : ℕ) where
   -- ---- the samples of a place
 
-  module _ (c : Cursor) (group : Bool) (n j : ℕ) (a : List ℕ) (x : Cursor) (ex : x ≡ step bytes limit c n) where
-    pub group-ran : group ≡ true → Ran bytes limit c (samplesBy group n j a) x (set a j (x .value))
+  module _ (c : Cursor) (group : Bool) (n j : ℕ) (a : List ℕ) where
+    pub group-ran : group ≡ true → (x : Cursor) → x ≡ step bytes limit c n → Ran bytes limit c (samplesBy group n j a) x (set a j (x .value))
     unfolding samplesBy
-    group-ran g = record { same = rw (g, ex) (advance bytes limit c n (λ v. done (set a j v))) }
+    group-ran g x ex = record { same = rw (g, ex) (advance bytes limit c n (λ v. done (set a j v))) }
 
-    pub three-ran : group ≡ false → (y z : Cursor) → y ≡ step bytes limit x n → z ≡ step bytes limit y n
-        → Ran bytes limit c (samplesBy group n j a) z (set (set (set a j (x .value)) (j + 1) (y .value)) (j + 2) (z .value))
-    unfolding samplesBy set3
-    three-ran g y z ey ez = record { same = rw (g, advance bytes limit c n, ← ex, advance bytes limit x n, ← ey, advance bytes limit y n, ← ez) }
+    pub three-ran : group ≡ false → (t : ThreeReads) → t ≡ threeSteps bytes limit c n
+        → Ran bytes limit c (samplesBy group n j a) (t .cursor) (set (set (set a j (t .first)) (j + 1) (t .second)) (j + 2) (t .cursor .value))
+    unfolding samplesBy set3 threeSteps
+    three-ran g t e =
+        let x = step bytes limit c n in
+        let y = step bytes limit x n in
+        record { same = rw (g, e, advance bytes limit c n, advance bytes limit x n, advance bytes limit y n) }
 
   -- ---- the places of a granule; `whole` is the outcome of all 96
 

@@ -6,9 +6,9 @@ ghost use Rattle.bits.specs.Ran.{Ran};
 ghost use Rattle.bitalloc.specs.Classes.{grouped, bitsPerCodeword};
 ghost use Rattle.mc_unpack.specs.Payload.{granuleAt, granules};
 ghost use Rattle.mc_unpack.specs.Parts.{samplesBy, widthsOf, groupsOf};
-use crate::payload::bits_if;
 use bitalloc::ClassLookup;
 use bits::Cursor;
+use mc_head::bits_if;
 
 // The bits of a place's codes, and whether each is a group code.
 struct Codeword {
@@ -63,15 +63,15 @@ fn read_samples(
     ensures { λ r. ⌜ Ran (now (bytes .entry)) limit c (samplesBy grouped n j (now (codes .entry))) r (now (codes .exit)) ⌝ }
 {
     let width = n as usize;
-    let x = bits::read(bytes, limit, c, width);
     if grouped {
+        let x = bits::read(bytes, limit, c, width);
         codes[j] = x.value as u16;
         return x;
     }
-    let y = bits::read(bytes, limit, x, width);
-    let z = bits::read(bytes, limit, y, width);
-    codes[j] = x.value as u16;
-    codes[j + 1] = y.value as u16;
+    let three = bits::read_three(bytes, limit, c, width);
+    let z = three.cursor;
+    codes[j] = three.first as u16;
+    codes[j + 1] = three.second as u16;
     codes[j + 2] = z.value as u16;
     z
 }

@@ -3,7 +3,6 @@ ghost use mathlib.Core.Path.{_≡_};
 ghost use Prim.Native.Nat.{_≤_};
 ghost use Rattle.bits.specs.Syntax.{run};
 ghost use Rattle.bits.specs.Ran.{Ran};
-ghost use Rattle.mc_head.specs.Head.{bitsIf};
 ghost use Rattle.mc_unpack.specs.Payload.{scfsi, payload};
 ghost use Rattle.mc_unpack.specs.Outcome.{outcomeOf};
 use crate::granules::read_granules;
@@ -30,13 +29,6 @@ pub fn read_scfsi(bytes: &[u8], limit: usize, c: Cursor, steps: &[u32; 96]) -> S
         }
     }
     ScfsiCodes { cursor, codes }
-}
-
-// The bits of a field that is there only where the test holds.
-pub fn bits_if(there: bool, n: usize) -> usize
-    ensures { λ r. ⌜ r ≡ bitsIf there n ⌝ }
-{
-    if there { n } else { 0 }
 }
 
 // The cursor after the whole payload, and its codes.

@@ -6,8 +6,8 @@ ghost use Rattle.bits.specs.Ran.{Ran};
 ghost use Rattle.bits.specs.Table.{set3};
 ghost use Rattle.mc_unpack.specs.Payload.{predictors};
 ghost use Rattle.mc_unpack.specs.Parts.{predictorBy};
-use crate::payload::bits_if;
 use bits::Cursor;
+use mc_head::bits_if;
 
 // The cursor after a predictor, its delay and its coefficient bytes.
 struct PredictorCode {

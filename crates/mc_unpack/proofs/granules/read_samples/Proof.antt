@@ -1,8 +1,10 @@
 -- `granules::read_samples` meets its contract.
 use native.Mathlib.Omega.{arith}
 use lib.ListN.{length-set}
+use mir.Syntax.{w16}
 use borrow.Author.Needs.{needs}
 use Rattle.bits.specs.CursorLaws.{cur-fits}
+use Rattle.bits.specs.ThreeLaws.{three-fits}
 use Rattle.mc_unpack.proofs.GranulesRead.{group-ran, three-ran}
 use Rattle.mc_unpack.proofs.granules.read_samples.Statement.{statement}
 use Rattle.mc_unpack.proofs.granules.read_samples.Tie as tie
@@ -25,14 +27,11 @@ same-length c = search needs
 returns : tie.Need-returns
 returns c = search group-ran
 
-read-requires-2 : tie.Need-read-requires-2
-read-requires-2 c κs = search needs
-
-read-requires-3 : tie.Need-read-requires-3
-read-requires-3 c κs = search needs
+read-three-requires : tie.Need-read-three-requires
+read-three-requires c κs = search needs
 
 cast-codes-2 : tie.Need-cast-codes-2
-cast-codes-2 c = search cur-fits
+cast-codes-2 c = (three-fits w16 _ _ _ _ _ (c .before .before .read-three .ensures) (omega (arith, c .before .before .before .before .before .before .pre))) .0
 
 mul-codes-2 : tie.Need-mul-codes-2
 mul-codes-2 c = search needs
@@ -41,7 +40,7 @@ slice-write-codes-2 : tie.Need-slice-write-codes-2
 slice-write-codes-2 c = search needs
 
 cast-codes-3 : tie.Need-cast-codes-3
-cast-codes-3 c = search cur-fits
+cast-codes-3 c = (three-fits w16 _ _ _ _ _ (c .before .before .before .read-three .ensures) (omega (arith, c .before .before .before .before .before .before .before .pre))) .1
 
 add-codes : tie.Need-add-codes
 add-codes c = search needs
@@ -50,16 +49,16 @@ mul-codes-3 : tie.Need-mul-codes-3
 mul-codes-3 c = search needs
 
 slice-write-codes-3 : tie.Need-slice-write-codes-3
-slice-write-codes-3 c = simp length-set (omega (arith, c .before .before .before .before .before .before .before .before .pre))
+slice-write-codes-3 c = simp length-set (omega (arith, c .before .before .before .before .before .before .before .pre))
 
 cast-codes-4 : tie.Need-cast-codes-4
-cast-codes-4 c = search cur-fits
+cast-codes-4 c = (three-fits w16 _ _ _ _ _ (c .before .before .before .before .read-three .ensures) (omega (arith, c .before .before .before .before .before .before .before .before .pre))) .2
 
 add-codes-2 : tie.Need-add-codes-2
-add-codes-2 c = omega (arith, c .before .before .before .before .before .before .before .before .before .pre, c .before .before .before .before .before .before .before .before .before .good)
+add-codes-2 c = search needs
 
 mul-codes-4 : tie.Need-mul-codes-4
-mul-codes-4 c = omega (arith, c .before .before .before .before .before .before .before .before .before .pre, c .before .before .before .before .before .before .before .before .before .good)
+mul-codes-4 c = search needs
 
 slice-write-codes-4 : tie.Need-slice-write-codes-4
 slice-write-codes-4 c = search needs
@@ -80,8 +79,7 @@ read-samples-spec =
     slice-write-codes
     same-length
     returns
-    read-requires-2
-    read-requires-3
+    read-three-requires
     cast-codes-2
     mul-codes-2
     slice-write-codes-2
