@@ -83,11 +83,10 @@ fn unpacked_frame<'a>(
         base_nb_steps,
     );
     let p = read_mc_payload(payload, payload_bits, s);
-    let codes = p.codes;
-    let cursor = codes.cursor;
-    if cursor.err != 0 {
+    let err = p.codes.cursor.err;
+    if err != 0 {
         return Framed {
-            answer: McAnswer::Refused(error_of(cursor.err)),
+            answer: McAnswer::Refused(error_of(err)),
             state,
         };
     }
@@ -104,7 +103,6 @@ fn unpacked_frame<'a>(
             },
         };
     }
-    let last = state.pred_hist;
     write_samples(s, p, raw, lfe);
     finish_payload(
         s,
@@ -114,14 +112,14 @@ fn unpacked_frame<'a>(
         raw_right,
         scaled_left,
         scaled_right,
-        &last,
+        &state.pred_hist,
         work,
         output,
     );
     Framed {
         answer: McAnswer::Accepted {
             head_bits,
-            payload_bits: cursor.at,
+            payload_bits: p.codes.cursor.at,
         },
         state: McDecodeState {
             pred_hist: next,
@@ -179,8 +177,13 @@ pub fn frame<'h, 'p, 'a, 'b, 'n, 'r, 'w, 'o, 'l>(
             state,
         };
     }
-    let last = state.pred_hist;
-    if !values_fit(raw_left, raw_right, scaled_left, scaled_right, &last) {
+    if !values_fit(
+        raw_left,
+        raw_right,
+        scaled_left,
+        scaled_right,
+        &state.pred_hist,
+    ) {
         return Framed {
             answer: McAnswer::Refused(McError::ValueOutOfRange),
             state,

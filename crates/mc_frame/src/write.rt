@@ -22,10 +22,13 @@ pub fn write_samples(s: McSettings, p: McPayload, raw: &mut [f64], lfe: &mut [f6
     requires { ⌜ (length (now raw) ≡ 3456) × (length (now lfe) ≡ 12) × (p .places ≡ placesOf s) × (s .«lfe_allocation» ≤ 15) × Writable s (codesOf (p .codes)) ⌝ }
     ensures { λ _. ⌜ (now (raw .exit) ≡ rawOf s (codesOf (p .codes))) × (now (lfe .exit) ≡ lfeOf (s .«lfe_allocation») (codesOf (p .codes))) ⌝ }
 {
-    let own = p.places.own;
-    let granules = p.codes.granules;
-    write_raw(&own, &granules, raw);
-    write_lfe(s.lfe_allocation, p.codes.lf_scalefactor, &granules, lfe);
+    write_raw(&p.places.own, &p.codes.granules, raw);
+    write_lfe(
+        s.lfe_allocation,
+        p.codes.lf_scalefactor,
+        &p.codes.granules,
+        lfe,
+    );
 }
 
 // Work and output, from the raw values.

@@ -26,14 +26,14 @@ read-mc-payload-requires c κs = lfe-low (c .settings .result) _ (c .settings .e
 
 -- src/frame.rt:86:39
 error-of-requires : tie.Need-error-of-requires
-error-of-requires c κs = let r = c .before .before .before .before .read-mc-payload in refused-number (c .before .before .before .before .before .settings .result) _ _ (r .result .codes) (r .ensures .0) (c .if1 .taken)
+error-of-requires c κs = let r = c .before .read-mc-payload in refused-number (c .before .before .settings .result) _ _ (r .result .codes) (r .ensures .0) (c .if1 .taken)
 
 -- src/frame.rt:85:9
 returns : tie.Need-returns
 returns c =
-    let r = c .before .before .before .before .before .read-mc-payload in
-    let k = c .before .before .before .before .before .before .settings in
-    after-refused (c .before .before .before .before .before .before .before .before .before .before .before .before .before .before .before .before .before .before .args .state) _ _ _ (k .result) _ _ (r .result .codes) (r .ensures .0) _ (k .ensures) (c .before .if1 .taken) (c .error-of .result) (c .error-of .ensures)
+    let r = c .before .before .read-mc-payload in
+    let k = c .before .before .before .settings in
+    after-refused (c .before .before .before .before .before .before .before .before .before .before .before .before .before .before .before .args .t1) _ _ _ (k .result) _ _ (r .result .codes) (r .ensures .0) _ (k .ensures) (c .before .if1 .taken) (c .error-of .result) (c .error-of .ensures)
 
 -- src/frame.rt:90:9
 channel-count-requires : tie.Need-channel-count-requires
@@ -42,7 +42,7 @@ channel-count-requires c κs = search needs
 -- src/frame.rt:91:9
 history-requires : tie.Need-history-requires
 history-requires c κs =
-    let f = base-fits (c .before .before .before .before .before .before .settings .result) _ (c .before .before .before .before .before .before .settings .ensures) _ _ (c .before .before .before .before .before .before .before .before .before .before .before .before .before .before .before .before .before .before .pre .0) in
+    let f = base-fits (c .before .before .before .settings .result) _ (c .before .before .before .settings .ensures) _ _ (c .before .before .before .before .before .before .before .before .before .before .before .before .before .before .before .pre .0) in
     (f .scaledLeftLong, f .scaledRightLong)
 
 -- src/frame.rt:93:9
@@ -52,36 +52,36 @@ layout-follows-requires c κs = search needs
 -- src/frame.rt:94:9
 returns-2 : tie.Need-returns-2
 returns-2 c =
-    let r = c .before .before .before .before .before .before .before .before .read-mc-payload in
-    let k = c .before .before .before .before .before .before .before .before .before .settings in
-    after-changed (c .before .before .before .before .before .before .before .before .before .before .before .before .before .before .before .before .before .before .before .before .before .args .state) _ _ _ (k .result) _ _ (r .result .codes) (r .ensures .0) _ (k .ensures) (c .before .before .before .before .if1 .left) _ (c .before .before .before .channel-count .ensures) _
+    let r = c .before .before .before .before .before .read-mc-payload in
+    let k = c .before .before .before .before .before .before .settings in
+    after-changed (c .before .before .before .before .before .before .before .before .before .before .before .before .before .before .before .before .before .before .args .t1) _ _ _ (k .result) _ _ (r .result .codes) (r .ensures .0) _ (k .ensures) (c .before .before .before .before .if1 .left) _ (c .before .before .before .channel-count .ensures) _
     (history-same (k .result) _ _ (c .before .before .history .ensures)) _ (c .before .layout-follows .ensures) (c .if2 .taken)
 
 -- src/frame.rt:104:5
 write-samples-requires : tie.Need-write-samples-requires
 write-samples-requires c κs =
-    let r = c .before .before .before .before .before .before .before .before .before .before .before .read-mc-payload in
-    let k = c .before .before .before .before .before .before .before .before .before .before .before .before .settings in (
-      c .before .before .before .before .before .before .before .before .before .before .before .before .before .before .before .before .before .before .before .before .before .before .before .before .pre .0 .raw,
-      c .before .before .before .before .before .before .before .before .before .before .before .before .before .before .before .before .before .before .before .before .before .before .before .before .pre .0 .lfe,
+    let r = c .before .before .before .before .before .before .before .read-mc-payload in
+    let k = c .before .before .before .before .before .before .before .before .settings in (
+      c .before .before .before .before .before .before .before .before .before .before .before .before .before .before .before .before .before .before .before .before .pre .0 .raw,
+      c .before .before .before .before .before .before .before .before .before .before .before .before .before .before .before .before .before .before .before .before .pre .0 .lfe,
       r .ensures .1,
-      lfe-low (k .result) _ (k .ensures) (c .before .before .before .before .before .before .before .before .before .before .before .before .before .before .before .before .before .before .before .before .before .before .before .before .pre .1),
-      writable (k .result) _ _ (r .result .codes) (r .ensures .0) (c .before .before .before .before .before .before .before .if1 .left),
+      lfe-low (k .result) _ (k .ensures) (c .before .before .before .before .before .before .before .before .before .before .before .before .before .before .before .before .before .before .before .before .pre .1),
+      writable (k .result) _ _ (r .result .codes) (r .ensures .0) (c .before .before .before .before .before .before .if1 .left),
     )
 
 -- src/frame.rt:105:5
 finish-payload-requires : tie.Need-finish-payload-requires
 finish-payload-requires c κs =
-    let r = c .before .before .before .before .before .before .before .before .before .before .before .before .before .before .before .before .before .before .before .before .read-mc-payload in
-    let k = c .before .before .before .before .before .before .before .before .before .before .before .before .before .before .before .before .before .before .before .before .before .settings in
+    let r = c .before .before .before .before .before .before .before .before .before .before .before .before .before .before .before .before .before .read-mc-payload in
+    let k = c .before .before .before .before .before .before .before .before .before .before .before .before .before .before .before .before .before .before .settings in
     let z = c .before .before .before .before .before .before .before .before .before .before .before .before .before .before .before .before .if1 .left in (
-      (c .before .before .before .before .before .before .before .before .write-samples .ensures .0, r .ensures .1, writable (k .result) _ _ (r .result .codes) (r .ensures .0) z, delays-small (k .result) _ _ (r .result .codes) (r .ensures .0) z),
-      (base-fits (k .result) _ (k .ensures) _ _ (c .before .before .before .before .before .before .before .before .before .before .before .before .before .before .before .before .before .before .before .before .before .before .before .before .before .before .before .before .before .before .before .before .before .pre .0), c .before .before .before .before .before .before .before .before .before .before .before .before .before .before .before .before .before .before .before .before .before .before .before .before .before .before .before .before .before .before .before .before .before .pre .0 .work, c .before .before .before .before .before .before .before .before .before .before .before .before .before .before .before .before .before .before .before .before .before .before .before .before .before .before .before .before .before .before .before .before .before .pre .0 .output),
+      (c .before .before .before .before .before .before .before .before .before .write-samples .ensures .0, r .ensures .1, writable (k .result) _ _ (r .result .codes) (r .ensures .0) z, delays-small (k .result) _ _ (r .result .codes) (r .ensures .0) z),
+      (base-fits (k .result) _ (k .ensures) _ _ (c .before .before .before .before .before .before .before .before .before .before .before .before .before .before .before .before .before .before .before .before .before .before .before .before .before .before .before .before .before .before .pre .0), c .before .before .before .before .before .before .before .before .before .before .before .before .before .before .before .before .before .before .before .before .before .before .before .before .before .before .before .before .before .before .pre .0 .work, c .before .before .before .before .before .before .before .before .before .before .before .before .before .before .before .before .before .before .before .before .before .before .before .before .before .before .before .before .before .before .pre .0 .output),
     )
 
 -- src/frame.rt:124:25
-cast-t48 : tie.Need-cast-t48
-cast-t48 c = channels-fit (c .before .before .before .before .before .before .before .before .before .before .before .before .before .before .before .before .before .before .before .before .before .before .before .before .before .before .settings .result) _ (c .before .before .before .before .before .before .before .before .before .before .before .before .before .before .before .before .before .before .before .before .channel-count .ensures)
+cast-t49 : tie.Need-cast-t49
+cast-t49 c = channels-fit (c .before .before .before .before .before .before .before .before .before .before .before .before .before .before .before .before .before .before .before .before .before .before .before .settings .result) _ (c .before .before .before .before .before .before .before .before .before .before .before .before .before .before .before .before .before .before .before .before .channel-count .ensures)
 
 -- src/frame.rt:125:23
 one-more-requires : tie.Need-one-more-requires
@@ -106,11 +106,11 @@ same-length-4 c = search needs
 -- src/frame.rt:47:1
 returns-3 : tie.Need-returns-3
 returns-3 c =
-    let r = c .before .before .before .before .before .before .before .before .before .before .before .before .before .before .before .before .before .before .before .before .before .before .before .before .before .before .read-mc-payload in
-    let k = c .before .before .before .before .before .before .before .before .before .before .before .before .before .before .before .before .before .before .before .before .before .before .before .before .before .before .before .settings in
+    let r = c .before .before .before .before .before .before .before .before .before .before .before .before .before .before .before .before .before .before .before .before .before .before .before .read-mc-payload in
+    let k = c .before .before .before .before .before .before .before .before .before .before .before .before .before .before .before .before .before .before .before .before .before .before .before .before .settings in
     let f = c .before .before .before .before .before .finish-payload in
-    let v = c .before .before .before .before .before .before .before .before .before .before .before .before .before .before .write-samples in
-    after-accepted (c .before .before .before .before .before .before .before .before .before .before .before .before .before .before .before .before .before .before .before .before .before .before .before .before .before .before .before .before .before .before .before .before .before .before .before .before .before .before .before .args .state) _ _ _ (k .result) _ _ (r .result .codes) (r .ensures .0) _ (k .ensures) (c .before .before .before .before .before .before .before .before .before .before .before .before .before .before .before .before .before .before .before .before .before .before .if1 .left) _ (c .before .before .before .before .before .before .before .before .before .before .before .before .before .before .before .before .before .before .before .before .before .channel-count .ensures) _
+    let v = c .before .before .before .before .before .before .before .before .before .before .before .before .before .before .before .write-samples in
+    after-accepted (c .before .before .before .before .before .before .before .before .before .before .before .before .before .before .before .before .before .before .before .before .before .before .before .before .before .before .before .before .before .before .before .before .before .before .before .before .args .t1) _ _ _ (k .result) _ _ (r .result .codes) (r .ensures .0) _ (k .ensures) (c .before .before .before .before .before .before .before .before .before .before .before .before .before .before .before .before .before .before .before .before .before .before .if1 .left) _ (c .before .before .before .before .before .before .before .before .before .before .before .before .before .before .before .before .before .before .before .before .before .channel-count .ensures) _
     (history-same (k .result) _ _ (c .before .before .before .before .before .before .before .before .before .before .before .before .before .before .before .before .before .before .before .before .history .ensures)) _ (c .before .before .before .before .before .before .before .before .before .before .before .before .before .before .before .before .before .before .before .layout-follows .ensures) (c .before .before .before .before .before .before .before .before .before .before .before .before .before .before .before .before .before .before .if2 .left) _ (c .one-more .ensures) _
     (written-is (k .result) (codesOf (r .result .codes)) _ _ _ _ _ _ (v .ensures .0) (f .ensures .0) (f .ensures .1) (v .ensures .1))
 
@@ -128,7 +128,7 @@ unpacked-frame-spec =
     returns-2
     write-samples-requires
     finish-payload-requires
-    cast-t48
+    cast-t49
     one-more-requires
     same-length
     same-length-2

@@ -10,7 +10,7 @@ use Rattle.mc_unpack.proofs.write_raw.Reads as write-raw-reads
 
 -- src/write.rt:27:5
 write-raw-requires : tie.Need-write-raw-requires
-write-raw-requires c κs = let q = c .before .before .before .before .before .before .before in raw-ready (q .args .s) (q .args .p) (q .pre .2) (q .pre .4) (q .pre .0)
+write-raw-requires c κs = let q = c .before .before .before .before .before .before in raw-ready (q .args .s) (q .args .t2) (q .pre .2) (q .pre .4) (q .pre .0)
 
 -- src/write.rt:28:5
 write-lfe-requires : tie.Need-write-lfe-requires
@@ -28,7 +28,7 @@ same-length-2 c = search needs
 returns : tie.Need-returns
 returns c =
     let q = c .before .before .before .before .before .before .before .before .before .before .before .before .before .before .before in
-    (raw-written (q .args .s) (q .args .p) (q .pre .2) _ (c .before .before .before .before .before .before .before .write-raw .ensures), lfe-written (q .args .s) (q .args .p) (q .pre .2) _ (c .before .before .write-lfe .ensures))
+    (raw-written (q .args .s) (q .args .t2) (q .pre .2) _ (c .before .before .before .before .before .before .before .before .write-raw .ensures), lfe-written (q .args .s) (q .args .t2) (q .pre .2) _ (c .before .before .write-lfe .ensures))
 
 pub write-samples-spec : {M : Type 1} → statement M
 write-samples-spec =
