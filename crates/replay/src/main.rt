@@ -152,7 +152,13 @@ fn lfe_values() -> [f64; 12] {
     [1.0; 12]
 }
 
-// Runs so many frames; false where the list ends before.
+// Whether the list ends here.
+fn ends() -> bool {
+    let mut more = [0u8; 1];
+    io::read_full(0, &mut more) == 0
+}
+
+// Runs so many frames and prints what was compared; false where the list ends before.
 fn replay(count: u64) -> bool {
     let mut raw = main_values();
     let mut work = main_values();
@@ -175,7 +181,11 @@ fn replay(count: u64) -> bool {
         tally = t.tally;
         left -= 1;
     }
-    report::totals(tally);
+    if ends() {
+        report::totals(tally);
+    } else {
+        report::line(b"the list has bytes left over");
+    }
     true
 }
 
@@ -191,10 +201,5 @@ fn main() {
     }
     if !replay(number_at(&opening, 8, 4)) {
         report::line(b"the list is cut within a frame");
-        return;
-    }
-    let mut more = [0u8; 1];
-    if io::read_full(0, &mut more) != 0 {
-        report::line(b"the list has bytes left over");
     }
 }

@@ -1,4 +1,4 @@
--- `replay::read_part` meets its contract.
+-- `replay::read_part` is safe and ends.
 use native.Mathlib.Omega.{arith}
 use lib.ListN.{length-take}
 use borrow.Author.Needs.{needs}

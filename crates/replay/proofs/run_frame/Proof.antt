@@ -1,4 +1,4 @@
--- `replay::run_frame` meets its contract.
+-- `replay::run_frame` is safe and ends.
 use native.Mathlib.Omega.{arith}
 use lib.ListN.{length-take}
 use borrow.Author.Needs.{needs}
