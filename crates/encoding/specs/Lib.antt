@@ -1,0 +1,3 @@
+-- The definitions of numbers as bytes and of the hash, and their laws.
+pub mod Encoding
+pub mod EncodingLaws
