@@ -11,6 +11,7 @@ mod write;
 pub use call::decode_mc_frame;
 pub use export::mc_decode_frame;
 pub use export::mc_fresh_state;
+pub use frame::frame as frame_by_value;
 
 // What a decoder keeps from frame to frame.
 #[repr(C)]
