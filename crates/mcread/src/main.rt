@@ -1,0 +1,13 @@
+// Reads a frame file (docs/FRAME_FILE.md) from standard input, decodes its frames in a row through one state, and prints what comes out of each.
+use input::run;
+
+mod body;
+mod input;
+mod numbers;
+mod report;
+mod summary;
+mod text;
+
+fn main() {
+    run();
+}
