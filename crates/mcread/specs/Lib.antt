@@ -2,6 +2,8 @@
 pub mod Text
 pub mod File
 pub mod Summary
+pub mod Step
 pub mod TextLaws
 pub mod FileLaws
 pub mod SummaryLaws
+pub mod StepLaws

@@ -3,6 +3,7 @@ ghost use mathlib.Core.Path.{_≡_};
 ghost use Prim.Native.Nat.{_≤_};
 ghost use lib.ListN.{length};
 ghost use Rattle.mcread.specs.File.{faultOf, Whole};
+ghost use Rattle.mcread.specs.Step.{afterFrame, stepOf};
 use crate::body::decode_body;
 use crate::body::layout_of;
 use crate::numbers::Numbers;
@@ -37,9 +38,32 @@ fn read_whole(buf: &mut [u8]) -> bool {
     io::read_full(STDIN_FILENO, buf) == want
 }
 
+// Prints an accepted frame.
+fn print_accepted(
+    number: u64,
+    n: Numbers,
+    body: &[u8],
+    head_bits: usize,
+    payload_bits: usize,
+    lfe: &[f64],
+    output: &[f64],
+)
+    requires { ⌜ Whole n (now body) ⌝ }
+{
+    let from = 128 * n.base_channels as usize + 384;
+    let to = from + n.head_bytes as usize;
+    let layout = layout_of(&body[from..to], n.head_bits as usize, n.base_channels);
+    report::put_accepted(number, layout, head_bits, payload_bits);
+    if 0 < n.lfe_allocation {
+        report::put_lfe(lfe);
+    }
+    report::put_channels(layout, output);
+}
+
 // Decodes a frame whose bytes were read, and prints it.
 fn decode_frame(state: McDecodeState, number: u64, n: Numbers, body: &[u8]) -> Step
     requires { ⌜ Whole n (now body) ⌝ }
+    ensures { λ r. ⌜ r ≡ stepOf (afterFrame n (now (body .entry)) state) ⌝ }
 {
     let mut raw = [0.0f64; 3456];
     let mut work = [0.0f64; 3456];
@@ -60,14 +84,7 @@ fn decode_frame(state: McDecodeState, number: u64, n: Numbers, body: &[u8]) -> S
             head_bits,
             payload_bits,
         } => {
-            let from = 128 * n.base_channels as usize + 384;
-            let to = from + n.head_bytes as usize;
-            let layout = layout_of(&body[from..to], n.head_bits as usize, n.base_channels);
-            report::put_accepted(number, layout, head_bits, payload_bits);
-            if 0 < n.lfe_allocation {
-                report::put_lfe(&lfe);
-            }
-            report::put_channels(layout, &output);
+            print_accepted(number, n, body, head_bits, payload_bits, &lfe, &output);
             Step {
                 state: next,
                 kind: ACCEPTED,

@@ -10,13 +10,13 @@ use Rattle.mcread.proofs.body.decode_body.Statement.{statement}
 use Rattle.mcread.proofs.body.decode_body.Tie as tie
 
 cast-channels : tie.Need-cast-channels
-cast-channels c = search needs
+cast-channels c = omega arith
 
 mul-step-count : tie.Need-mul-step-count
-mul-step-count c = search needs
+mul-step-count c = omega arith
 
 add-step-count : tie.Need-add-step-count
-add-step-count c = search needs
+add-step-count c = omega arith
 
 array-borrow-prefix-steps : tie.Need-array-borrow-prefix-steps
 array-borrow-prefix-steps c = let q = c .before .before .before .before .before .before in let r = right-of (q .args .n) (q .pre .right) in omega (arith, r .two)
@@ -28,25 +28,25 @@ fill-steps-requires : tie.Need-fill-steps-requires
 fill-steps-requires c κs = let q = c .before .before .before .before .before .before .before in let r = right-of (q .args .n) (q .pre .right) in rw length-take (min-le-right _ _)
 
 mul-value-count : tie.Need-mul-value-count
-mul-value-count c = search needs
+mul-value-count c = omega arith
 
 mul-at : tie.Need-mul-at
-mul-at c = search needs
+mul-at c = omega arith
 
 add-at : tie.Need-add-at
-add-at c = search needs
+add-at c = omega arith
 
 cast-at : tie.Need-cast-at
-cast-at c = search needs
+cast-at c = omega arith
 
 add-at-2 : tie.Need-add-at-2
-add-at-2 c = search needs
+add-at-2 c = omega arith
 
 cast-at-2 : tie.Need-cast-at-2
-cast-at-2 c = search needs
+cast-at-2 c = omega arith
 
 add-at-3 : tie.Need-add-at-3
-add-at-3 c = search needs
+add-at-3 c = omega arith
 
 array-borrow-prefix-values : tie.Need-array-borrow-prefix-values
 array-borrow-prefix-values c = let q = c .before .before .before .before .before .before .before .before .before .before .before in let r = right-of (q .args .n) (q .pre .right) in omega (arith, r .two)

@@ -6,31 +6,31 @@ use Rattle.mcread.proofs.numbers.body_bytes.Statement.{statement}
 use Rattle.mcread.proofs.numbers.body_bytes.Tie as tie
 
 cast-channels : tie.Need-cast-channels
-cast-channels c = search needs
+cast-channels c = omega arith
 
 mul-result : tie.Need-mul-result
-mul-result c = search needs
+mul-result c = omega arith
 
 add-result : tie.Need-add-result
-add-result c = search needs
+add-result c = omega arith
 
 cast-result : tie.Need-cast-result
-cast-result c = search needs
+cast-result c = omega arith
 
 add-result-2 : tie.Need-add-result-2
-add-result-2 c = search needs
+add-result-2 c = omega arith
 
 cast-result-2 : tie.Need-cast-result-2
-cast-result-2 c = search needs
+cast-result-2 c = omega arith
 
 add-result-3 : tie.Need-add-result-3
-add-result-3 c = search needs
+add-result-3 c = omega arith
 
 mul-result-2 : tie.Need-mul-result-2
-mul-result-2 c = search needs
+mul-result-2 c = omega arith
 
 add-result-4 : tie.Need-add-result-4
-add-result-4 c = search needs
+add-result-4 c = omega arith
 
 returns : tie.Need-returns
 returns c = let r = right-of (c .before .before .before .args .n) (c .before .before .before .pre) in (omega arith, omega (arith, r .two, r .head, r .payload))
