@@ -1,9 +1,5 @@
--- What mcread reads out of a file and says of a frame, and laws of it.
-pub mod Text
-pub mod File
-pub mod Summary
+-- What a frame of a file lends and what becomes of it, and laws of it.
+pub mod Lent
 pub mod Step
-pub mod TextLaws
-pub mod FileLaws
-pub mod SummaryLaws
+pub mod LentLaws
 pub mod StepLaws

@@ -3,10 +3,12 @@ ghost use mathlib.Core.Path.{_≡_};
 ghost use Rattle.mc_frame.specs.Answer.{buffersFrom, afterOf};
 ghost use Rattle.mc_frame.specs.Frame.{frameOf};
 ghost use Rattle.mc_head.specs.Lent.{headOf};
-ghost use Rattle.mcread.specs.File.{Whole, Cut, lentFrom, lentIn, layoutFor};
-use crate::numbers::Numbers;
-use crate::numbers::fill_steps;
-use crate::numbers::fill_values;
+ghost use Rattle.mcread.specs.Lent.{Whole, Cut, lentFrom, lentIn, layoutFor, stateOf};
+use frame_file::Numbers;
+use frame_file::fill_steps;
+use frame_file::fill_values;
+use frame_file::u8_at;
+use frame_file::u32_at;
 use mc_config::Layout;
 use mc_config::McConfig;
 use mc_frame::Framed;
@@ -110,5 +112,18 @@ pub fn layout_of(head: &[u8], bits: usize, base_channels: u8) -> Layout
             count: 0,
             channels: [0; 5],
         },
+    }
+}
+
+// The state that a file carries.
+pub fn state_of(bytes: &[u8]) -> McDecodeState
+    ensures { λ r. ⌜ r ≡ stateOf (now (bytes .entry)) ⌝ }
+{
+    let mut history = [0.0f64; 576];
+    fill_values(bytes, 5, &mut history);
+    McDecodeState {
+        pred_hist: history,
+        layout_len: u8_at(bytes, 0),
+        accepted: u32_at(bytes, 1),
     }
 }

@@ -3,10 +3,7 @@ use input::run;
 
 mod body;
 mod input;
-mod numbers;
 mod report;
-mod summary;
-mod text;
 
 fn main() {
     run();

@@ -1,14 +1,13 @@
 // Printing. These functions only write; what they write is made by the functions of the other files.
 ghost use Prim.Native.Nat.{_≤_};
 ghost use lib.ListN.{length};
-use crate::numbers;
-use crate::numbers::Numbers;
-use crate::summary::millionths_of;
-use crate::summary::six_digits;
-use crate::summary::summary_of;
-use crate::text::Text;
-use crate::text::name_of;
-use crate::text::words_of;
+use frame_file::Numbers;
+use frame_file::Text;
+use frame_file::millionths_of;
+use frame_file::name_of;
+use frame_file::six_digits;
+use frame_file::summary_of;
+use frame_file::words_of;
 use libc::STDOUT_FILENO;
 use mc_config::Layout;
 use mc_error::McError;
@@ -134,9 +133,9 @@ pub fn put_totals(accepted: u32, refused: u32) {
 
 pub fn put_opening_fault(fault: u32) {
     match fault {
-        numbers::EMPTY => put(b"bad file: the input is empty\n"),
-        numbers::OTHER_LETTERS => put(b"bad file: it does not begin with MCFRAMES\n"),
-        numbers::OPENING_CUT => put(b"bad file: it ends inside the opening\n"),
+        frame_file::EMPTY => put(b"bad file: the input is empty\n"),
+        frame_file::OTHER_LETTERS => put(b"bad file: it does not begin with MCFRAMES\n"),
+        frame_file::OPENING_CUT => put(b"bad file: it ends inside the opening\n"),
         _ => put(b"bad file: byte 12, which says whether a state follows, is neither 0 nor 1\n"),
     }
 }
@@ -162,12 +161,12 @@ pub fn put_frame_cut(number: u64) {
 pub fn put_fault(number: u64, n: Numbers, fault: u32) {
     put_bad_frame(number);
     match fault {
-        numbers::BASE_CHANNELS => {
+        frame_file::BASE_CHANNELS => {
             put(b" has base channel count ");
             put_number(n.base_channels as u64);
             put(b", which is neither 1 nor 2\n");
         }
-        numbers::HEAD_BYTES => {
+        frame_file::HEAD_BYTES => {
             put(b" has head bytes ");
             put_number(n.head_bytes as u64);
             put(b", above 8192\n");

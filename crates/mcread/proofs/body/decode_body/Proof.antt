@@ -4,7 +4,8 @@ use native.Mathlib.Omega.{arith}
 use native.Mathlib.Nat.{min-le-right}
 use lib.ListN.{length-take}
 use lib.Seq.{length-take-le}
-use Rattle.mcread.specs.FileLaws.{right-of, front-tab, front-room, front-count, decoded}
+use Rattle.frame_file.specs.FileLaws.{right-of}
+use Rattle.mcread.specs.LentLaws.{front-tab, front-room, front-count, decoded}
 use borrow.Author.Needs.{needs}
 use Rattle.mcread.proofs.body.decode_body.Statement.{statement}
 use Rattle.mcread.proofs.body.decode_body.Tie as tie

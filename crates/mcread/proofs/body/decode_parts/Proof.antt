@@ -1,6 +1,6 @@
 -- `mcread::body::decode_parts` meets its contract: each part lies within its slice.
-use Rattle.mcread.specs.File.{lentFrom}
-use Rattle.mcread.specs.FileLaws.{right-of}
+use Rattle.mcread.specs.Lent.{lentFrom}
+use Rattle.frame_file.specs.FileLaws.{right-of}
 use native.Mathlib.Omega.{arith}
 use borrow.Author.Needs.{needs}
 use Rattle.mcread.proofs.body.decode_parts.Statement.{statement}

@@ -1,5 +1,5 @@
 -- `mcread::body::layout_of` meets its contract.
-use Rattle.mcread.specs.FileLaws.{layout-accepted, layout-refused}
+use Rattle.mcread.specs.LentLaws.{layout-accepted, layout-refused}
 use borrow.Author.Needs.{needs}
 use Rattle.mcread.proofs.body.layout_of.Statement.{statement}
 use Rattle.mcread.proofs.body.layout_of.Tie as tie
