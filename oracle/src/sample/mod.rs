@@ -1,9 +1,11 @@
 //! Frame files (docs/FRAME_FILE.md), and what the program `mcread` prints of one, from the reference's
 //! values.
 
+mod mixed;
 mod reel;
 mod text;
 
+pub use mixed::mixed;
 pub use reel::reel;
 pub use text::lines;
 

@@ -24,7 +24,11 @@ pub fn lines(file: &File) -> String {
     }
     let read = file.frames.len();
     let refused = read - accepted;
-    writeln!(out, "{read} frames read, {accepted} accepted, {refused} refused").unwrap();
+    writeln!(
+        out,
+        "{read} frames read, {accepted} accepted, {refused} refused"
+    )
+    .unwrap();
     out
 }
 
@@ -37,7 +41,11 @@ fn accepted_lines(out: &mut String, frame: &FrameOutput, lfe: bool) {
     writeln!(out, "- {head} head bits, {payload} payload bits").unwrap();
     let buffers = Buffers::of(frame);
     if lfe {
-        let samples: String = buffers.lfe.iter().map(|x| format!(" {}", decimal(*x))).collect();
+        let samples: String = buffers
+            .lfe
+            .iter()
+            .map(|x| format!(" {}", decimal(*x)))
+            .collect();
         writeln!(out, "  lfe{samples}").unwrap();
     }
     for (channel, values) in frame.head.layout.iter().zip(buffers.output.chunks(1152)) {
@@ -45,7 +53,11 @@ fn accepted_lines(out: &mut String, frame: &FrameOutput, lfe: bool) {
         let nonzero = values.iter().filter(|x| **x != 0.0).count();
         let (name, peak) = (name(channel), decimal(peak));
         let hash = Hash::new().floats(values).0;
-        writeln!(out, "  {name}: peak {peak}, not 0: {nonzero}, hash {hash:016x}").unwrap();
+        writeln!(
+            out,
+            "  {name}: peak {peak}, not 0: {nonzero}, hash {hash:016x}"
+        )
+        .unwrap();
     }
 }
 
@@ -53,7 +65,11 @@ fn accepted_lines(out: &mut String, frame: &FrameOutput, lfe: bool) {
 fn decimal(x: f64) -> String {
     let millionths = (x.abs() * 1_000_000.0) as u64;
     let sign = if x < 0.0 { "-" } else { "" };
-    format!("{sign}{}.{:06}", millionths / 1_000_000, millionths % 1_000_000)
+    format!(
+        "{sign}{}.{:06}",
+        millionths / 1_000_000,
+        millionths % 1_000_000
+    )
 }
 
 fn name(channel: &McChannel) -> &'static str {
@@ -81,7 +97,11 @@ fn refused(refusal: &Refusal) -> String {
         _ => "a step count or LFE allocation that the head does not admit",
     };
     match refusal {
-        Refusal { number: 2, group, code } => format!("2, {words} (group {group}, code {code})"),
+        Refusal {
+            number: 2,
+            group,
+            code,
+        } => format!("2, {words} (group {group}, code {code})"),
         Refusal { number, .. } => format!("{number}, {words}"),
     }
 }
