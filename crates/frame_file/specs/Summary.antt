@@ -1,5 +1,5 @@
 -- What is said of a channel's values, and a value as millionths. Definitions only.
-use mathlib.Core.Bool.{Bool, cond}
+use mathlib.Core.Bool.{cond}
 use mathlib.Core.List.{List, [], _∷_}
 use Prim.Native.Nat.{ℕ, _+_}
 use lib.Ieee.{Float, binary64, ofBits, neg, lt, ne, toUnsigned}

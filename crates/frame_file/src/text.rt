@@ -1,7 +1,6 @@
 // Words for channels and refusals.
-ghost use mathlib.Core.Path.{_≡_};
 ghost use Prim.Native.Nat.{_≤_};
-ghost use lib.ListN.{length, getD};
+ghost use lib.ListN.{length};
 ghost use Rattle.frame_file.specs.Text.{Spells, nameOf, wordsOf};
 use mc_error::McError;
 

@@ -1,5 +1,5 @@
 -- A step of either kind is the definition's.
-use mathlib.Core.Path.{_≡_, refl, sym, ap, _∙_}
+use mathlib.Core.Path.{_≡_}
 use Prim.Native.Nat.{ℕ}
 use Rattle.mc_error.specs.declared.McError.{McError}
 use Rattle.mc_frame.specs.Answer.{afterOf}

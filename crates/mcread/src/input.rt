@@ -1,7 +1,5 @@
 // Reading standard input, frame after frame. No contract can say what is read.
 ghost use mathlib.Core.Path.{_≡_};
-ghost use Prim.Native.Nat.{_≤_};
-ghost use lib.ListN.{length};
 ghost use Rattle.frame_file.specs.File.{faultOf};
 ghost use Rattle.mcread.specs.Lent.{Whole};
 ghost use Rattle.mcread.specs.Step.{afterFrame, stepOf};

@@ -1,7 +1,6 @@
 -- `frame_file::numbers::body_bytes` meets its contract: a frame whose numbers are right fits the space.
 use native.Mathlib.Omega.{arith}
 use Rattle.frame_file.specs.FileLaws.{right-of}
-use borrow.Author.Needs.{needs}
 use Rattle.frame_file.proofs.numbers.body_bytes.Statement.{statement}
 use Rattle.frame_file.proofs.numbers.body_bytes.Tie as tie
 

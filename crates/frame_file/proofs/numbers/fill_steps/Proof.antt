@@ -1,5 +1,5 @@
 -- `frame_file::numbers::fill_steps` meets its contract. The loop fills the step counts in order.
-use Prim.Native.Nat.{ℕ, _+_, _-_, _*_, _≤_, _<_}
+use Prim.Native.Nat.{_-_}
 use native.Mathlib.Omega.{arith}
 use borrow.Author.Needs.{needs}
 use lib.ListN.{length}

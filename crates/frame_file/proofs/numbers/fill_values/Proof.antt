@@ -1,8 +1,8 @@
 -- `frame_file::numbers::fill_values` meets its contract. The loop fills the values in order.
-use Prim.Native.Nat.{ℕ, _+_, _-_, _*_, _≤_, _<_}
+use Prim.Native.Nat.{_-_}
 use native.Mathlib.Omega.{arith}
 use borrow.Author.Needs.{needs}
-use mathlib.Core.Path.{_≡_, ap, _∙_}
+use mathlib.Core.Path.{ap, _∙_}
 use lib.Ieee.{ofBits, binary64}
 use lib.ListN.{length}
 use Rattle.fill.specs.InOrder.{Filling, starts, more, ends-all}

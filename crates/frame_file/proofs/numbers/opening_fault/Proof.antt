@@ -1,7 +1,6 @@
 -- `frame_file::numbers::opening_fault` meets its contract: each return goes by the tests that led there.
 use Rattle.frame_file.specs.FileLaws.{opening-empty, opening-other, opening-cut, opening-flag, opening-right}
-use mathlib.Core.Path.{_≡_, sym, _∙_}
-use Prim.Native.Nat.{ℕ, _≤_, _<_}
+use mathlib.Core.Path.{sym, _∙_}
 use native.Mathlib.Omega.{arith}
 use borrow.Author.Needs.{needs}
 use Rattle.frame_file.proofs.numbers.opening_fault.Statement.{statement}

@@ -1,6 +1,6 @@
 -- `frame_file::summary::digit` meets its contract.
 use native.Mathlib.Omega.{arith}
-use Prim.Native.Nat.{ℕ, _<_, _%_}
+use Prim.Native.Nat.{_<_, _%_}
 use borrow.Author.Tests.{lt-ltb}
 use borrow.Author.Needs.{needs}
 use Rattle.frame_file.proofs.summary.digit.Statement.{statement}

@@ -1,11 +1,11 @@
 -- `frame_file::summary::nonzero` meets its contract. The number of values that are not 0 from here on, with what was counted, stays the same.
-use Prim.Native.Nat.{ℕ, _+_, _-_, _*_, _≤_, _<_}
+use Prim.Native.Nat.{ℕ, _+_, _-_, _≤_}
 use native.Mathlib.Omega.{arith}
 use borrow.Author.Needs.{needs}
 use mathlib.Core.Path.{_≡_, refl, sym, ap, _∙_}
 use mathlib.Core.Bool.{cond}
 use mathlib.Core.Logic.{⊎-elim}
-use lib.Ieee.{Float, nan, ne}
+use lib.Ieee.{nan, ne}
 use lib.ListN.{length, drop, getD}
 use Rattle.frame_file.specs.Summary.{nonzeroFrom}
 use Rattle.frame_file.specs.SummaryLaws.{nonzero-more, nonzero-none, nonzero-is, nonzero-not}

@@ -1,11 +1,11 @@
 -- `frame_file::summary::peak` meets its contract. The largest magnitude from here on, with what was found, stays the same.
-use Prim.Native.Nat.{ℕ, _+_, _-_, _*_, _≤_, _<_}
+use Prim.Native.Nat.{_+_, _-_}
 use native.Mathlib.Omega.{arith}
 use borrow.Author.Needs.{needs}
 use mathlib.Core.Path.{_≡_, refl, sym, ap, _∙_}
 use mathlib.Core.Logic.{⊎-elim}
-use lib.Ieee.{Float, nan}
-use lib.ListN.{length, drop, getD}
+use lib.Ieee.{Float}
+use lib.ListN.{length, drop}
 use Rattle.frame_file.specs.Summary.{peakFrom, larger, magnitude}
 use Rattle.frame_file.specs.SummaryLaws.{peak-more, peak-none, larger-is, larger-not}
 use Rattle.floats.specs.Binary64.{zero64}

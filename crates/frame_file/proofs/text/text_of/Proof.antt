@@ -1,9 +1,9 @@
 -- `frame_file::text::text_of` meets its contract. The loop copies the letters in order.
-use Prim.Native.Nat.{ℕ, _+_, _-_, _*_, _≤_, _<_}
+use Prim.Native.Nat.{_-_}
 use native.Mathlib.Omega.{arith}
 use mathlib.Core.Path.{refl}
-use lib.ListN.{length, getD, replicate}
-use Rattle.fill.specs.InOrder.{Filling, starts, more, ends}
+use lib.ListN.{length, getD}
+use Rattle.fill.specs.InOrder.{Filling, starts, more}
 use Rattle.frame_file.specs.TextLaws.{copied}
 use Rattle.frame_file.proofs.text.text_of.Statement.{statement}
 use Rattle.frame_file.proofs.text.text_of.Tie as tie
