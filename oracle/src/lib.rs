@@ -16,6 +16,7 @@ pub mod leaf;
 pub mod library;
 pub mod output;
 pub mod replay;
+pub mod sample;
 pub mod scope;
 
 pub use input::FrameInput;

@@ -12,6 +12,7 @@ pub use call::decode_mc_frame;
 pub use export::mc_decode_frame;
 pub use export::mc_fresh_state;
 pub use frame::frame as decode_frame;
+pub use frame::frame as frame_by_value;
 
 // What a decoder keeps from frame to frame.
 #[repr(C)]

@@ -1,0 +1,30 @@
+// Frame files (docs/FRAME_FILE.md): the numbers, step counts and values in their bytes, and what is said of a frame in words and numbers.
+
+mod numbers;
+mod summary;
+mod text;
+
+pub use numbers::BASE_CHANNELS;
+pub use numbers::EMPTY;
+pub use numbers::HEAD_BYTES;
+pub use numbers::NEITHER_0_NOR_1;
+pub use numbers::NO_FAULT;
+pub use numbers::Numbers;
+pub use numbers::OPENING_CUT;
+pub use numbers::OTHER_LETTERS;
+pub use numbers::PAYLOAD_BYTES;
+pub use numbers::body_bytes;
+pub use numbers::fault_of;
+pub use numbers::fill_steps;
+pub use numbers::fill_values;
+pub use numbers::numbers_of;
+pub use numbers::opening_fault;
+pub use numbers::u8_at;
+pub use numbers::u32_at;
+pub use summary::Summary;
+pub use summary::millionths_of;
+pub use summary::six_digits;
+pub use summary::summary_of;
+pub use text::Text;
+pub use text::name_of;
+pub use text::words_of;

@@ -1,0 +1,107 @@
+//! The lines of `mcread`, from the reference's values.
+
+use super::File;
+use crate::mc::McChannel;
+use crate::output::FrameOutput;
+use crate::replay::values::Hash;
+use crate::scope::{Buffers, Refusal, judge};
+use std::fmt::Write;
+
+/// What `mcread` prints of a file.
+pub fn lines(file: &File) -> String {
+    let mut out = String::new();
+    let mut state = file.state.clone();
+    let mut accepted = 0;
+    for (k, input) in file.frames.iter().enumerate() {
+        write!(out, "frame {}: ", k + 1).unwrap();
+        match judge(input, &mut state) {
+            Ok(frame) => {
+                accepted += 1;
+                accepted_lines(&mut out, &frame, input.lfe_allocation != 0);
+            }
+            Err(refusal) => writeln!(out, "refused: {}", refused(&refusal)).unwrap(),
+        }
+    }
+    let read = file.frames.len();
+    let refused = read - accepted;
+    writeln!(
+        out,
+        "{read} frames read, {accepted} accepted, {refused} refused"
+    )
+    .unwrap();
+    out
+}
+
+fn accepted_lines(out: &mut String, frame: &FrameOutput, lfe: bool) {
+    let span = &frame.span;
+    for channel in &frame.head.layout {
+        write!(out, "{} ", name(channel)).unwrap();
+    }
+    let (head, payload) = (span.head_used, span.payload_used);
+    writeln!(out, "- {head} head bits, {payload} payload bits").unwrap();
+    let buffers = Buffers::of(frame);
+    if lfe {
+        let samples: String = buffers
+            .lfe
+            .iter()
+            .map(|x| format!(" {}", decimal(*x)))
+            .collect();
+        writeln!(out, "  lfe{samples}").unwrap();
+    }
+    for (channel, values) in frame.head.layout.iter().zip(buffers.output.chunks(1152)) {
+        let peak = values.iter().fold(0.0f64, |most, x| most.max(x.abs()));
+        let nonzero = values.iter().filter(|x| **x != 0.0).count();
+        let (name, peak) = (name(channel), decimal(peak));
+        let hash = Hash::new().floats(values).0;
+        writeln!(
+            out,
+            "  {name}: peak {peak}, not 0: {nonzero}, hash {hash:016x}"
+        )
+        .unwrap();
+    }
+}
+
+/// Six places, the rest cut off.
+fn decimal(x: f64) -> String {
+    let millionths = (x.abs() * 1_000_000.0) as u64;
+    let sign = if x < 0.0 { "-" } else { "" };
+    format!(
+        "{sign}{}.{:06}",
+        millionths / 1_000_000,
+        millionths % 1_000_000
+    )
+}
+
+fn name(channel: &McChannel) -> &'static str {
+    match channel {
+        McChannel::Left => "L",
+        McChannel::Right => "R",
+        McChannel::Centre => "C",
+        McChannel::LeftSurround => "LS",
+        McChannel::RightSurround => "RS",
+        McChannel::MonoSurround => "S",
+        McChannel::SecondLeft => "L2",
+        McChannel::SecondRight => "R2",
+    }
+}
+
+fn refused(refusal: &Refusal) -> String {
+    let words = match refusal.number {
+        1 => "a field passes the bit count of its string",
+        2 => "a crosstalk code is not listed",
+        3 => "the header's Layer III flag is set",
+        4 => "a scalefactor index is 63, which is reserved",
+        5 => "the layout has another number of channels than before",
+        6 => "a bit count, rate, LFE allocation, base step count or layout count is wrong",
+        7 => "a base or history value is not within -4 to 4",
+        _ => "a step count or LFE allocation that the head does not admit",
+    };
+    match refusal {
+        Refusal {
+            number: 2,
+            group,
+            code,
+        } => format!("2, {words} (group {group}, code {code})"),
+        Refusal { number, .. } => format!("{number}, {words}"),
+    }
+}
