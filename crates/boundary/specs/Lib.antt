@@ -8,3 +8,4 @@ pub mod LookLaws
 pub mod Told
 pub mod ToldLaws
 pub mod Run
+pub mod RunLaws

@@ -1,5 +1,5 @@
 -- Each return of the functions that make one element.
-use mathlib.Core.Path.{_≡_, refl}
+use mathlib.Core.Path.{_≡_}
 use mathlib.Core.List.{List}
 use Prim.Native.Nat.{ℕ, _/_, _%_, _≤_, _<_}
 use lib.ListN.{getD}

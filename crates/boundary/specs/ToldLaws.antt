@@ -1,5 +1,5 @@
 -- Each case of an answer in numbers.
-use mathlib.Core.Path.{_≡_, refl}
+use mathlib.Core.Path.{_≡_}
 use Prim.Native.Nat.{ℕ}
 use Rattle.mc_error.specs.Error.{refusalOf}
 use Rattle.mc_error.specs.declared.McError.{McError}

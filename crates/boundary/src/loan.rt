@@ -1,6 +1,7 @@
 // What is lent to a frame call.
 ghost use mathlib.Core.Path.{_≡_};
 ghost use Rattle.fill.specs.Tab.{tab};
+ghost use Rattle.boundary.specs.String.{bytesOf};
 ghost use Rattle.boundary.specs.Loan.{rampOf, stepAt, byteFrom, onesAt};
 use crate::string::Bits;
 use crate::string::bytes;
@@ -22,7 +23,9 @@ pub struct Loan {
 
 impl Loan {
     // The head, a stereo base at 44,100 Hz, and no payload.
-    pub fn new(head: Bits) -> Loan {
+    pub fn new(head: Bits) -> Loan
+        ensures { λ r. ⌜ (r .head ≡ bytesOf (head .bits)) × (r .«head_bits» ≡ head .at) ⌝ }
+    {
         let bits = head.bits;
         let head_bytes = bytes(&bits);
         Loan {

@@ -1,4 +1,6 @@
 // Writes lines.
+ghost use mathlib.Core.Path.{_≡_};
+ghost use Rattle.boundary.specs.Run.{storedBy};
 use crate::loan::Loan;
 use crate::loan::ramp;
 use crate::look::is_stored;
@@ -42,7 +44,9 @@ fn say_counts(state: McDecodeState) {
 }
 
 // Whether the history holds the base's last slots; one base channel stands in both halves.
-fn stored(loan: Loan, state: McDecodeState) -> bool {
+fn stored(loan: Loan, state: McDecodeState) -> bool
+    ensures { λ r. ⌜ r ≡ storedBy loan (state .«pred_hist») ⌝ }
+{
     let history = state.pred_hist;
     let left = ramp(loan.left);
     if loan.base_channels == 1 {

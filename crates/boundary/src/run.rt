@@ -3,7 +3,7 @@ ghost use mathlib.Core.Path.{_≡_};
 ghost use Prim.Native.Nat.{_≤_};
 ghost use Rattle.mc_frame.specs.Answer.{buffersFrom, afterOf};
 ghost use Rattle.mc_frame.specs.Frame.{frameOf};
-ghost use Rattle.boundary.specs.Run.{lentBy};
+ghost use Rattle.boundary.specs.Run.{lentBy, secondLength, afterRun, FoundIs};
 ghost use Rattle.boundary.specs.Told.{toldOf};
 use crate::loan::Loan;
 use crate::loan::ramp;
@@ -53,7 +53,7 @@ pub struct Found {
 
 // Values and step counts of a second base channel.
 fn second_length(base_channels: u8, n: usize) -> usize
-    ensures { λ r. ⌜ r ≤ n ⌝ }
+    ensures { λ r. ⌜ (r ≡ secondLength «base_channels» n) × (r ≤ n) ⌝ }
 {
     if base_channels == 1 { 0 } else { n }
 }
@@ -98,7 +98,9 @@ fn call<'a>(
 }
 
 // The call, on buffers that hold 1 throughout.
-pub fn run(loan: Loan, state: McDecodeState) -> Found {
+pub fn run(loan: Loan, state: McDecodeState) -> Found
+    ensures { λ r. ⌜ FoundIs (afterRun loan state) r ⌝ }
+{
     let left = ramp(loan.left);
     let right = ramp(loan.right);
     let base_steps = [0u32; 64];

@@ -1,5 +1,4 @@
 -- `boundary::loan::ones_at` meets its contract: each return goes by the tests that led there.
-use borrow.Author.Needs.{needs}
 use Rattle.boundary.specs.LoanLaws.{ones-before, ones-there, ones-after}
 use Rattle.boundary.proofs.loan.ones_at.Statement.{statement}
 use Rattle.boundary.proofs.loan.ones_at.Tie as tie

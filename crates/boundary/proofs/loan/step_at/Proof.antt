@@ -1,5 +1,4 @@
 -- `boundary::loan::step_at` meets its contract: each return goes by the tests that led there.
-use borrow.Author.Needs.{needs}
 use Rattle.boundary.specs.LoanLaws.{step-beyond, step-above, step-there}
 use Rattle.boundary.proofs.loan.step_at.Statement.{statement}
 use Rattle.boundary.proofs.loan.step_at.Tie as tie

@@ -1,9 +1,8 @@
 -- `boundary::string::byte` meets its contract: at k the value is that of the first k places.
-use Prim.Native.Nat.{_+_, _≤_, _<_, _-_}
-use mathlib.Core.Path.{_≡_, refl, sym, ap, _∙_}
+use Prim.Native.Nat.{_≤_, _<_, _-_}
+use mathlib.Core.Path.{_≡_, refl, ap, _∙_}
 use native.Mathlib.Omega.{arith}
 use borrow.Author.Needs.{needs}
-use lib.ListN.{getD}
 use Rattle.boundary.specs.String.{byteOf}
 use Rattle.boundary.specs.StringLaws.{byte-more}
 use Rattle.boundary.proofs.string.byte.Statement.{statement}

@@ -1,6 +1,4 @@
 -- `boundary::string::Bits::field` meets its contract.
-use Prim.Native.Nat.{ℕ, _+_, _*_, _-_, _/_, _%_, _≤_, _<_}
-use mathlib.Core.Path.{_≡_, refl, sym, ap, _∙_}
 use native.Mathlib.Omega.{arith}
 use Rattle.boundary.specs.StringLaws.{field-passes, field-fits}
 use borrow.Author.Needs.{needs}

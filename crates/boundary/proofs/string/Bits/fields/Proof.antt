@@ -1,11 +1,10 @@
 -- `boundary::string::Bits::fields` meets its contract: after k turns there are k fields more.
-use Prim.Native.Nat.{ℕ, _+_, _*_, _-_, _/_, _%_, _≤_, _<_}
-use mathlib.Core.Path.{_≡_, refl, sym, ap, _∙_}
+use Prim.Native.Nat.{ℕ, _-_, _≤_}
+use mathlib.Core.Path.{_≡_, refl, ap, _∙_}
 use native.Mathlib.Omega.{arith}
 use borrow.Author.Needs.{needs}
 use Rattle.boundary.specs.String.{fieldsOf}
 use Rattle.boundary.specs.StringLaws.{fields-more}
-use Rattle.boundary.specs.declared.string.Bits.{Bits}
 use Rattle.boundary.proofs.string.Bits.fields.Statement.{statement}
 use Rattle.boundary.proofs.string.Bits.fields.Tie as tie
 
