@@ -223,7 +223,7 @@ fn surround(lines: &mut Lines) {
 fn refusals(lines: &mut Lines) {
     let three_two = |left| plan(2, 1, 2, left);
     let mut state = State::fresh();
-    let _ = lines.line("3/2", &three_two(0.25), &mut state);
+    let _ = lines.line("3/2", &three_two(0.125), &mut state);
     let state = || state.clone();
     let name = "head of no bits";
     let _ = lines.spoiled(name, &three_two(0.5), &mut state(), |input| {

@@ -89,9 +89,9 @@ pub fn mono_surround() -> Loan {
     loan
 }
 
-// 3/2 with a crosstalk code that is not listed.
-pub fn forbidden(group: usize, code: u32) -> Loan {
-    Loan::new(crossed_head(group, code))
+// 3/2 with a crosstalk code in group 5.
+pub fn forbidden(code: u32) -> Loan {
+    Loan::new(crossed_head(5, code, 6))
 }
 
 // 3/2 with the Layer III flag.

@@ -26,8 +26,8 @@ pub fn plain_head(centre: u32, surround: u32, tc_bits: usize, lfe: u32, layer3: 
         .field(tc_bits, 0) // tc_allocation
 }
 
-// 3/2 with a crosstalk code in one group, and code 0 in the other groups.
-pub fn crossed_head(group: usize, code: u32) -> Bits {
+// 3/2 with a crosstalk code in one group, and code 0 in the groups before and after it.
+pub fn crossed_head(before: usize, code: u32, after: usize) -> Bits {
     let start = Bits::new().field(1, 0); // ext_bit_stream_present
     header(start, 1, 2, 0, 0)
         .field(16, 0) // mc_crc_check
@@ -36,9 +36,9 @@ pub fn crossed_head(group: usize, code: u32) -> Bits {
         .field(1, 0) // mc_prediction_on
         .field(3, 0) // tc_allocation
         .field(1, 0) // dyn_cross_LR
-        .fields(group, 4, 0) // dyn_cross_mode of the groups before
+        .fields(before, 4, 0) // dyn_cross_mode
         .field(4, code)
-        .fields(12, 4, 0) // and of those after it
+        .fields(after, 4, 0)
 }
 
 // 3/2 with every field that a head can have: 232 bits.

@@ -89,13 +89,13 @@ pub fn mono_lines() {
     surround_line();
 }
 
-// Each refusal, in a state of 3/2.
+// Each refusal, in a state of 3/2 whose history is of another base.
 pub fn refusal_lines() {
-    let state = line(b"3/2", three_two(0.25), McDecodeState::new());
+    let state = line(b"3/2", three_two(0.125), McDecodeState::new());
     let mut empty = three_two(0.5);
     empty.head_bits = 0;
     line(b"head of no bits", empty, state);
-    line(b"crosstalk code 15 in group 5", forbidden(5, 15), state);
+    line(b"crosstalk code 15 in group 5", forbidden(15), state);
     line(b"Layer III flag", layer_three(), state);
     line(b"LFE scalefactor 63", lfe_scalefactor(63), state);
     line(b"3/1 after 3/2", three_one(0.5), state);
