@@ -41,12 +41,12 @@ fn longest() -> Plan {
     longest
 }
 
-/// Mono base, phantom centre, second stereo; 7 steps and the highest code below subband 12.
-fn phantom() -> Plan {
+/// Mono base, phantom centre, second stereo; 7 steps and the highest code in the first subbands.
+fn phantom(subbands: usize) -> Plan {
     let mut plan = plan(1, 3, 3, 0.25);
-    plan.payload.steps[0][..12].fill(7);
+    plan.payload.steps[0][..subbands].fill(7);
     for granule in &mut plan.payload.codes {
-        granule[0][..12].fill([7; 3]);
+        granule[0][..subbands].fill([7; 3]);
     }
     plan
 }
@@ -189,7 +189,7 @@ fn held(frame: &FrameOutput, base: &Slots, subband: usize) -> &'static str {
 }
 
 fn mono_bases(lines: &mut Lines) {
-    let plan = phantom();
+    let plan = phantom(12);
     let name = "mono base, phantom centre, second stereo";
     let frame = lines.line(name, &plan, &mut State::fresh()).unwrap();
     let mut subband = 0;
@@ -203,6 +203,8 @@ fn mono_bases(lines: &mut Lines) {
     lines.add(&format!(
         "; second left transmitted below subband {others}, then +0 below {zeros}, then the base value below {bases}"
     ));
+    let name = "the same with a step count in subband 12";
+    let _ = lines.line(name, &phantom(13), &mut State::fresh());
     surround(lines);
 }
 

@@ -69,10 +69,10 @@ pub fn longest(head_bits: usize, payload_bits: usize) -> Loan {
     loan
 }
 
-// Mono base, phantom centre, second stereo; 7 steps in subbands 0 to 11 of second left. The payload is 12 scfsi codes and 36 scalefactors,
-// all 0, in 30 bytes, and then samples whose bits are all 1.
-pub fn phantom() -> Loan {
-    let steps = first_steps(1, 12, 7);
+// Mono base, phantom centre, second stereo; 7 steps in the first subbands of second left. For 12 of them the payload is 12 scfsi codes and
+// 36 scalefactors, all 0, in 30 bytes, and then samples whose bits are all 1.
+pub fn phantom(subbands: usize) -> Loan {
+    let steps = first_steps(1, subbands, 7);
     let payload = payload_of_ones(30, 192);
     let mut loan = Loan::new(plain_head(3, 3, 0, 0, 0));
     loan.base_channels = 1;

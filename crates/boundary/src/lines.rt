@@ -49,7 +49,7 @@ pub fn layout_lines() {
 }
 
 fn phantom_line() {
-    let loan = phantom();
+    let loan = phantom(12);
     let state = McDecodeState::new();
     let found = run(loan, state);
     let output = found.output;
@@ -86,6 +86,11 @@ fn surround_line() {
 
 pub fn mono_lines() {
     phantom_line();
+    line(
+        b"the same with a step count in subband 12",
+        phantom(13),
+        McDecodeState::new(),
+    );
     surround_line();
 }
 
