@@ -4,7 +4,7 @@ use mc_error::McError;
 mod call;
 mod checks;
 mod export;
-mod frame;
+pub mod frame;
 mod state;
 mod write;
 

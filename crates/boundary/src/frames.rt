@@ -1,0 +1,108 @@
+// The frames.
+use crate::heads::crossed_head;
+use crate::heads::longest_head;
+use crate::heads::plain_head;
+use crate::loan::Loan;
+use crate::loan::first_steps;
+use crate::loan::payload_from;
+use crate::loan::payload_of_ones;
+use crate::string::Bits;
+use crate::string::bytes;
+
+// 3/2, 3/1 and 2/2 with nothing transmitted; the base begins with this value.
+pub fn three_two(left: f64) -> Loan {
+    let mut loan = Loan::new(plain_head(1, 2, 3, 0, 0));
+    loan.left = left;
+    loan
+}
+
+pub fn three_one(left: f64) -> Loan {
+    let mut loan = Loan::new(plain_head(1, 1, 3, 0, 0));
+    loan.left = left;
+    loan
+}
+
+pub fn two_two(left: f64) -> Loan {
+    let mut loan = Loan::new(plain_head(0, 2, 2, 0, 0));
+    loan.left = left;
+    loan
+}
+
+// 3/2 with 7 steps in one place, whose last scalefactor is `code`.
+pub fn scalefactor(code: u32) -> Loan {
+    let start = Bits::new()
+        .field(2, 0) // scfsi: three scalefactors
+        .field(6, 0)
+        .field(6, 0)
+        .field(6, code);
+    let bits = start.bits;
+    let payload = payload_from(&bytes(&bits));
+    let steps = first_steps(1, 1, 7);
+    let mut loan = Loan::new(plain_head(1, 2, 3, 0, 0));
+    loan.payload = payload;
+    // 12 granules of three samples of 3 bits
+    loan.payload_bits = 20 + 12 * 9;
+    loan.steps = steps;
+    loan
+}
+
+// 3/2 with an LFE allocation of 1 (2 bits to a sample) and this LFE scalefactor.
+pub fn lfe_scalefactor(code: u32) -> Loan {
+    let start = Bits::new().field(6, code);
+    let bits = start.bits;
+    let payload = payload_from(&bytes(&bits));
+    let mut loan = Loan::new(plain_head(1, 2, 3, 1, 0));
+    loan.payload = payload;
+    loan.payload_bits = 6 + 12 * 2;
+    loan.lfe_allocation = 1;
+    loan
+}
+
+// Every field at its longest: 65,535 steps in all 30 subbands of three channels.
+pub fn longest(head_bits: usize, payload_bits: usize) -> Loan {
+    let steps = first_steps(3, 30, 65535);
+    let mut loan = Loan::new(longest_head());
+    loan.head_bits = head_bits;
+    loan.payload_bits = payload_bits;
+    loan.lfe_allocation = 15;
+    loan.steps = steps;
+    loan
+}
+
+// Mono base, phantom centre, second stereo; 7 steps in the first subbands of second left. For 12 of them the payload is 12 scfsi codes and
+// 36 scalefactors, all 0, in 30 bytes, and then samples whose bits are all 1.
+pub fn phantom(subbands: usize) -> Loan {
+    let steps = first_steps(1, subbands, 7);
+    let payload = payload_of_ones(30, 192);
+    let mut loan = Loan::new(plain_head(3, 3, 0, 0, 0));
+    loan.base_channels = 1;
+    loan.payload = payload;
+    loan.payload_bits = 8 * 192;
+    loan.steps = steps;
+    loan
+}
+
+// Mono base, no centre, stereo surround.
+pub fn mono_surround() -> Loan {
+    let mut loan = Loan::new(plain_head(0, 2, 0, 0, 0));
+    loan.base_channels = 1;
+    loan
+}
+
+// 3/2 with a crosstalk code in group 5.
+pub fn forbidden(code: u32) -> Loan {
+    Loan::new(crossed_head(5, code, 6))
+}
+
+// 3/2 with the Layer III flag.
+pub fn layer_three() -> Loan {
+    Loan::new(plain_head(1, 2, 3, 0, 1))
+}
+
+// 3/2 with a phantom centre and a step count in its subband 12.
+pub fn barred() -> Loan {
+    let steps = first_steps(1, 13, 7);
+    let mut loan = Loan::new(plain_head(3, 2, 3, 0, 0));
+    loan.steps = steps;
+    loan
+}

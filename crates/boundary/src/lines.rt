@@ -1,0 +1,113 @@
+// The lines, in document 01's order.
+use crate::frames::barred;
+use crate::frames::forbidden;
+use crate::frames::layer_three;
+use crate::frames::lfe_scalefactor;
+use crate::frames::longest;
+use crate::frames::mono_surround;
+use crate::frames::phantom;
+use crate::frames::scalefactor;
+use crate::frames::three_one;
+use crate::frames::three_two;
+use crate::frames::two_two;
+use crate::loan::Loan;
+use crate::loan::ramp;
+use crate::look::holds_until;
+use crate::look::second_is_first;
+use crate::look::third_is_silent;
+use crate::print::say;
+use crate::print::say_found;
+use crate::print::say_number;
+use crate::run::run;
+use mc_frame::McDecodeState;
+
+// A frame's line, and the state after it.
+fn line(name: &[u8], loan: Loan, state: McDecodeState) -> McDecodeState {
+    let found = run(loan, state);
+    say(name);
+    say_found(loan, state, found);
+    say(b"\n");
+    found.state
+}
+
+// Scalefactors, and strings of the longest length.
+pub fn string_lines() {
+    let fresh = McDecodeState::new();
+    line(b"scalefactor 62", scalefactor(62), fresh);
+    line(b"scalefactor 63", scalefactor(63), fresh);
+    line(b"longest head and payload", longest(232, 55134), fresh);
+    line(b"one head bit fewer", longest(231, 55134), fresh);
+    line(b"one payload bit fewer", longest(232, 55133), fresh);
+}
+
+// Three frames through one state.
+pub fn layout_lines() {
+    let fresh = McDecodeState::new();
+    let first = line(b"3/1", three_one(0.25), fresh);
+    let second = line(b"then 2/2", two_two(0.5), first);
+    line(b"then 3/2", three_two(0.75), second);
+}
+
+fn phantom_line() {
+    let loan = phantom(12);
+    let state = McDecodeState::new();
+    let found = run(loan, state);
+    let output = found.output;
+    let base = ramp(loan.left);
+    say(b"mono base, phantom centre, second stereo");
+    say_found(loan, state, found);
+    let others = holds_until(&output, &base, 0, 0);
+    say(b"; second left transmitted below subband ");
+    say_number(others);
+    let zeros = holds_until(&output, &base, others, 1);
+    say(b", then +0 below ");
+    say_number(zeros);
+    let bases = holds_until(&output, &base, zeros, 2);
+    say(b", then the base value below ");
+    say_number(bases);
+    say(b"\n");
+}
+
+fn surround_line() {
+    let loan = mono_surround();
+    let state = McDecodeState::new();
+    let found = run(loan, state);
+    let output = found.output;
+    say(b"mono base, stereo surround");
+    say_found(loan, state, found);
+    if second_is_first(&output) {
+        say(b"; left surround equals left");
+    }
+    if third_is_silent(&output) {
+        say(b", right surround is +0");
+    }
+    say(b"\n");
+}
+
+pub fn mono_lines() {
+    phantom_line();
+    line(
+        b"the same with a step count in subband 12",
+        phantom(13),
+        McDecodeState::new(),
+    );
+    surround_line();
+}
+
+// Each refusal, in a state of 3/2 whose history is of another base.
+pub fn refusal_lines() {
+    let state = line(b"3/2", three_two(0.125), McDecodeState::new());
+    let mut empty = three_two(0.5);
+    empty.head_bits = 0;
+    line(b"head of no bits", empty, state);
+    line(b"crosstalk code 15 in group 5", forbidden(15), state);
+    line(b"Layer III flag", layer_three(), state);
+    line(b"LFE scalefactor 63", lfe_scalefactor(63), state);
+    line(b"3/1 after 3/2", three_one(0.5), state);
+    let mut rate = three_two(0.5);
+    rate.rate = 24000;
+    line(b"24,000 Hz", rate, state);
+    // the last base value is 1/1024 above 4
+    line(b"base value above 4", three_two(2.876953125), state);
+    line(b"step count in a barred subband", barred(), state);
+}

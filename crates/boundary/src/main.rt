@@ -1,0 +1,22 @@
+// Runs the boundary frames of document 01 that are executed, and each of its eight refusals, and writes a line on each: what the frame call
+// answered, and what became of the buffers and of the state.
+mod frames;
+mod heads;
+mod lines;
+mod loan;
+mod look;
+mod print;
+mod run;
+mod string;
+
+use lines::layout_lines;
+use lines::mono_lines;
+use lines::refusal_lines;
+use lines::string_lines;
+
+fn main() {
+    string_lines();
+    layout_lines();
+    mono_lines();
+    refusal_lines();
+}

@@ -1,0 +1,89 @@
+// Writes lines.
+ghost use mathlib.Core.Path.{_≡_};
+ghost use Rattle.boundary.specs.Run.{storedBy};
+use crate::loan::Loan;
+use crate::loan::ramp;
+use crate::look::is_stored;
+use crate::look::same_values;
+use crate::run::Found;
+use crate::run::Told;
+use crate::run::in_numbers;
+use libc::STDOUT_FILENO;
+use mc_frame::McDecodeState;
+
+pub fn say(text: &[u8]) {
+    io::write_all(STDOUT_FILENO, text);
+}
+
+pub fn say_number(n: usize) {
+    io::print_decimal(STDOUT_FILENO, n as u64);
+}
+
+fn say_answer(answer: Told) {
+    if answer.number == 0 {
+        say(b"accepted, ");
+        say_number(answer.first);
+        say(b" head bits, ");
+        say_number(answer.second);
+        say(b" payload bits");
+        return;
+    }
+    say(b"refusal ");
+    say_number(answer.number as usize);
+    say(b", group ");
+    say_number(answer.first);
+    say(b", code ");
+    say_number(answer.second);
+}
+
+fn say_counts(state: McDecodeState) {
+    say(b"layout count ");
+    say_number(state.layout_len as usize);
+    say(b", accepted frames ");
+    say_number(state.accepted as usize);
+}
+
+// Whether the history holds the base's last slots; one base channel stands in both halves.
+fn stored(loan: Loan, state: McDecodeState) -> bool
+    ensures { λ r. ⌜ r ≡ storedBy loan (state .«pred_hist») ⌝ }
+{
+    let history = state.pred_hist;
+    let left = ramp(loan.left);
+    if loan.base_channels == 1 {
+        return is_stored(&history, &left, &left);
+    }
+    let right = ramp(loan.right);
+    is_stored(&history, &left, &right)
+}
+
+// What became of the state.
+fn say_state(loan: Loan, before: McDecodeState, after: McDecodeState) {
+    let old = before.pred_hist;
+    let new = after.pred_hist;
+    let counts = (before.layout_len == after.layout_len) & (before.accepted == after.accepted);
+    if same_values(&old, &new) & counts {
+        say(b"; state as it was");
+        return;
+    }
+    if stored(loan, after) {
+        say(b"; history stored, ");
+    } else {
+        say(b"; history neither stored nor as it was, ");
+    }
+    say_counts(after);
+    if counts {
+        say(b" as they were");
+    }
+}
+
+// The answer, the buffers and the state, without the line's end.
+pub fn say_found(loan: Loan, before: McDecodeState, found: Found) {
+    let answer = found.answer;
+    let state = found.state;
+    say(b": ");
+    say_answer(in_numbers(answer));
+    if found.kept {
+        say(b"; buffers as they were");
+    }
+    say_state(loan, before, state);
+}
