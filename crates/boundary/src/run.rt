@@ -11,7 +11,7 @@ use crate::look::all_are;
 use mc_frame::Framed;
 use mc_frame::McAnswer;
 use mc_frame::McDecodeState;
-use mc_frame::frame::frame;
+use mc_frame::frame_by_value;
 
 // An answer in numbers.
 pub struct Told {
@@ -75,7 +75,7 @@ fn call<'a>(
     let head = loan.head;
     let payload = loan.payload;
     let steps = loan.steps;
-    frame(
+    frame_by_value(
         state,
         &head,
         loan.head_bits,

@@ -4,14 +4,13 @@ use mc_error::McError;
 mod call;
 mod checks;
 mod export;
-pub mod frame;
+mod frame;
 mod state;
 mod write;
 
 pub use call::decode_mc_frame;
 pub use export::mc_decode_frame;
 pub use export::mc_fresh_state;
-pub use frame::frame as decode_frame;
 pub use frame::frame as frame_by_value;
 
 // What a decoder keeps from frame to frame.

@@ -15,7 +15,7 @@ use crate::opening::start;
 use encoding::number_at;
 use mc_frame::Framed;
 use mc_frame::McDecodeState;
-use mc_frame::decode_frame;
+use mc_frame::frame_by_value;
 
 // Rebuilds the base values and the step counts in the slices that are lent for them.
 fn rebuild<'a, 'b, 'c, 'd, 'e, 'f>(
@@ -68,7 +68,7 @@ fn call<'a>(
     let rate = number32_at(opening, 12);
     let base_channels = byte_at(opening, 16);
     let lfe_allocation = byte_at(opening, 18);
-    decode_frame(
+    frame_by_value(
         before,
         head,
         head_bits,
