@@ -1,13 +1,13 @@
 -- Granules, read from a cursor: the samples of a place, the loop over the places, and the loop over the granules.
-use mathlib.Core.Path.{_≡_, ap, _∙_}
+use mathlib.Core.Path.{_≡_, refl, ap, _∙_}
 use mathlib.Core.Bool.{Bool, true, false}
 use mathlib.Core.List.{List}
-use Prim.Native.Nat.{ℕ, _+_, _-_, _*_, _≤_, _<_}
+use Prim.Native.Nat.{ℕ, zero, suc, _+_, _-_, _*_, _≤_, _<_}
 use native.Mathlib.Omega.{arith}
 use lib.Dec.{ltb}
 use lib.ListN.{length, getD, set}
 use borrow.Author.Tests.{eq-eqb, ne-eqb}
-use Rattle.bits.specs.Syntax.{Outcome, done, times}
+use Rattle.bits.specs.Syntax.{Outcome, done, bind, times}
 use Rattle.bits.specs.Cursor.{step, runFrom}
 use Rattle.bits.specs.CursorLaws.{advance, loop-next, times-over}
 use Rattle.bits.specs.Three.{threeSteps}
@@ -19,7 +19,7 @@ use Rattle.fill.specs.TabLaws.{getD-tab}
 use Rattle.bitalloc.specs.Classes.{grouped, bitsPerCodeword}
 use Rattle.mc_head.specs.Head.{bitsIf}
 use Rattle.mc_unpack.specs.Payload.{samplesAt, granuleAt, granules}
-use Rattle.mc_unpack.specs.Parts.{samplesBy, widthsOf, groupsOf}
+use Rattle.mc_unpack.specs.Parts.{samplesBy, widthsOf, groupsOf, NoneFrom}
 use Rattle.mc_unpack.proofs.ClassLaws.{codeword-most}
 
 -- a table that was lent keeps its length
@@ -41,8 +41,12 @@ module _ (own widths : List ℕ) (e : widths ≡ widthsOf own) (i : ℕ) (h : i 
   unfolding widthsOf
   width-at = rw e (getD-tab 0 (λ k. bitsPerCodeword (getD own k 0)) 96 i h)
 
-  pub width-small : getD widths i 0 ≤ 16
+  width-small : getD widths i 0 ≤ 16
   width-small = rw width-at (codeword-most (getD own i 0))
+
+-- the same for a place before `end`
+pub width-below : (own widths : List ℕ) → widths ≡ widthsOf own → (i end : ℕ) → i < end → end ≤ 96 → getD widths i 0 ≤ 16
+width-below own widths e i end l m = width-small own widths e i (omega arith)
 
 pub group-at : (own : List ℕ) (groups : List Bool) → groups ≡ groupsOf own → (i : ℕ) → i < 96 → getD groups i false ≡ grouped (getD own i 0)
 unfolding groupsOf
@@ -67,7 +71,10 @@ module _ (bytes : List ℕ) (limit : ℕ) where
   -- ---- the places of a granule; `whole` is the outcome of all 96
 
   module _ (own : List ℕ) (gr : ℕ) where
-    module _ (whole : Outcome (List ℕ)) (c : Cursor) (i : ℕ) (t : List ℕ) (inv : whole ≡ runFrom bytes limit c (times (96 - i) i (samplesAt own gr) t)) (h : i < 96) (c′ : Cursor) (t′ : List ℕ) where
+    module _ (whole : Outcome (List ℕ)) (c : Cursor) (i : ℕ) (t : List ℕ) (inv : whole ≡ runFrom bytes limit c (times (96 - i) i (samplesAt own gr) t)) (end : ℕ) (l : i < end) (m : end ≤ 96) (c′ : Cursor) (t′ : List ℕ) where
+      h : i < 96
+      h = omega arith
+
       pub samples-skip : getD own i 0 ≡ 0 → t′ ≡ t → c′ ≡ c → whole ≡ runFrom bytes limit c′ (times (96 - (i + 1)) (i + 1) (samplesAt own gr) t′)
       unfolding samplesAt
       samples-skip z et ec = rw (ec, et) (loop-next bytes limit whole c 96 i (samplesAt own gr) t inv c t h (rw (eq-eqb (getD own i 0) 0 z)))
@@ -81,12 +88,25 @@ module _ (bytes : List ℕ) (limit : ℕ) where
           (loop-next bytes limit whole c 96 i (samplesAt own gr) t inv r a h
           (rw (ne-eqb (getD own i 0) 0 n, ← width-at own widths ew i h, ← group-at own groups eg i h) (e .same)))
 
+    -- the places from i on, which have no samples
+    samples-none : (n i : ℕ) (r : Cursor) (t : List ℕ) → ((k : ℕ) → i ≤ k → k < i + n → getD own k 0 ≡ 0)
+        → runFrom bytes limit r (times n i (samplesAt own gr) t) ≡ runFrom bytes limit r (done t)
+    unfolding times bind samplesAt
+    samples-none zero i r t h = refl
+    samples-none (suc n) i r t h =
+        rw (eq-eqb (getD own i 0) 0 (h i (omega arith) (omega arith)))
+        (samples-none n (suc i) r t (λ k l m. h k (omega arith) (omega arith)))
+
     pub granule-end : (lfe w : ℕ) (c d r : Cursor) (a : List ℕ) (i : ℕ) (t : List ℕ) → w ≡ bitsIf (ltb 0 lfe) (lfe + 1) → d ≡ step bytes limit c w
         → runFrom bytes limit d (times 96 0 (samplesAt own gr) (set a (289 * gr) (d .value))) ≡ runFrom bytes limit r (times (96 - i) i (samplesAt own gr) t)
-        → 96 ≤ i → Ran bytes limit c (granuleAt lfe own gr a) r t
+        → (end : ℕ) → NoneFrom own end → end ≤ i → i ≤ end → Ran bytes limit c (granuleAt lfe own gr a) r t
     unfolding granuleAt
-    granule-end lfe w c d r a i t ew ed inv h =
-        record { same = rw (← ew, advance bytes limit c w, ← ed) (inv ∙ times-over bytes limit r 96 i (samplesAt own gr) t h) }
+    granule-end lfe w c d r a i t ew ed inv end none h h′ =
+        let e : i + (96 - i) ≡ 96 = omega (arith, none .most) in
+        record {
+          same = rw (← ew, advance bytes limit c w, ← ed)
+              (inv ∙ samples-none (96 - i) i r t (λ k l m. none .none k (omega arith) (rw e at m)));
+        }
 
   -- ---- the granules
 

@@ -1,7 +1,8 @@
 -- Parts of the payload as they are read: a predictor by its coefficient count, and the samples of a place by their width and grouping.
+use mathlib.Core.Path.{_≡_}
 use mathlib.Core.Bool.{Bool, cond}
 use mathlib.Core.List.{List}
-use Prim.Native.Nat.{ℕ, _+_, _*_}
+use Prim.Native.Nat.{ℕ, _+_, _*_, _≤_, _<_}
 use lib.Dec.{ltb}
 use lib.ListN.{getD, set}
 use Rattle.bits.specs.Table.{set3}
@@ -31,3 +32,8 @@ widthsOf own = tab (λ i. bitsPerCodeword (getD own i 0)) 96
 
 unfoldable pub groupsOf : List ℕ → List Bool
 groupsOf own = tab (λ i. grouped (getD own i 0)) 96
+
+-- no place has samples from `end` on
+pub record NoneFrom (own : List ℕ) (end : ℕ) : Type 0 where
+  pub most : end ≤ 96
+  pub none : (i : ℕ) → end ≤ i → i < 96 → getD own i 0 ≡ 0

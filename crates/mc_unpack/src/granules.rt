@@ -5,7 +5,7 @@ ghost use lib.ListN.{length};
 ghost use Rattle.bits.specs.Ran.{Ran};
 ghost use Rattle.bitalloc.specs.Classes.{grouped, bitsPerCodeword};
 ghost use Rattle.mc_unpack.specs.Payload.{granuleAt, granules};
-ghost use Rattle.mc_unpack.specs.Parts.{samplesBy, widthsOf, groupsOf};
+ghost use Rattle.mc_unpack.specs.Parts.{samplesBy, widthsOf, groupsOf, NoneFrom};
 use bitalloc::ClassLookup;
 use bits::Cursor;
 use mc_head::bits_if;
@@ -49,6 +49,19 @@ fn codewords_of(own: &[u32; 96]) -> Codewords
     Codewords { bits, grouped }
 }
 
+// The places up to the last that has samples.
+fn places_end(own: &[u32; 96]) -> usize
+    ensures { λ r. ⌜ NoneFrom (now (own .entry)) r ⌝ }
+{
+    let mut end: usize = 0;
+    for i in 0usize..96 {
+        if own[i] != 0 {
+            end = i + 1;
+        }
+    }
+    end
+}
+
 // The samples of a place in a granule: one group code, or three codes, from the index j on.
 fn read_samples(
     bytes: &[u8],
@@ -76,7 +89,7 @@ fn read_samples(
     z
 }
 
-// A granule: the LFE code, then the samples of each place.
+// A granule: the LFE code, then the samples of each place, which has none from `end` on.
 fn read_granule<'a>(
     bytes: &[u8],
     limit: usize,
@@ -84,18 +97,19 @@ fn read_granule<'a>(
     gr: usize,
     lfe: u8,
     own: &[u32; 96],
+    end: usize,
     widths: &'a [u8; 96],
     groups: &'a [bool; 96],
     codes: &mut [u16],
 ) -> Cursor
     requires { ⌜ (gr < 12) × (lfe ≤ 15) × (length (now codes) ≡ 3468) ⌝ }
-    requires { ⌜ (now widths ≡ widthsOf (now own)) × (now groups ≡ groupsOf (now own)) ⌝ }
+    requires { ⌜ (now widths ≡ widthsOf (now own)) × (now groups ≡ groupsOf (now own)) × NoneFrom (now own) end ⌝ }
     ensures { λ r. ⌜ Ran (now (bytes .entry)) limit c (granuleAt lfe (now (own .entry)) gr (now (codes .entry))) r (now (codes .exit)) ⌝ }
 {
     let first = 289 * gr;
     let mut cursor = bits::read(bytes, limit, c, bits_if(0 < lfe, lfe as usize + 1));
     codes[first] = cursor.value as u16;
-    for i in 0usize..96 {
+    for i in 0usize..end {
         if own[i] != 0 {
             cursor = read_samples(
                 bytes,
@@ -128,6 +142,7 @@ pub fn read_granules(
     ensures { λ r. ⌜ Ran (now (bytes .entry)) limit c (granules lfe (now (own .entry))) (r .cursor) (r .codes) ⌝ }
 {
     let codewords = codewords_of(own);
+    let end = places_end(own);
     let mut cursor = c;
     let mut codes = [0u16; 3468];
     for gr in 0usize..12 {
@@ -138,6 +153,7 @@ pub fn read_granules(
             gr,
             lfe,
             own,
+            end,
             &codewords.bits,
             &codewords.grouped,
             &mut codes,

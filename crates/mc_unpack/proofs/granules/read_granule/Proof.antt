@@ -9,15 +9,15 @@ use Rattle.bits.specs.Syntax.{times}
 use Rattle.bits.specs.Cursor.{runFrom}
 use Rattle.bits.specs.CursorLaws.{cur-fits}
 use Rattle.mc_unpack.specs.Payload.{samplesAt}
-use Rattle.mc_unpack.proofs.GranulesRead.{kept-length, lfe-width, width-small, samples-read, samples-skip, granule-end}
+use Rattle.mc_unpack.proofs.GranulesRead.{kept-length, lfe-width, width-below, samples-read, samples-skip, granule-end}
 use Rattle.mc_unpack.proofs.granules.read_granule.Statement.{statement}
 use Rattle.mc_unpack.proofs.granules.read_granule.Tie as tie
 
 abbrev Inv-loop : tie.InvT-loop
-Inv-loop bytes limit gr lfe own widths groups codes₀ first cursor₀ i₀ codes cursor i = (i ≤ 96) × (length codes ≡ 3468) × (runFrom bytes limit cursor₀ (times 96 0 (samplesAt own gr) codes₀) ≡ runFrom bytes limit cursor (times (96 - i) i (samplesAt own gr) codes))
+Inv-loop bytes limit gr lfe own end widths groups codes₀ first cursor₀ i₀ codes cursor i = (i ≤ end) × (end ≤ 96) × (length codes ≡ 3468) × (runFrom bytes limit cursor₀ (times 96 0 (samplesAt own gr) codes₀) ≡ runFrom bytes limit cursor (times (96 - i) i (samplesAt own gr) codes))
 
 abbrev μ-loop : tie.MeasureT-loop
-μ-loop bytes limit gr lfe own widths groups codes₀ first cursor₀ i₀ codes cursor i = 96 - i
+μ-loop bytes limit gr lfe own end widths groups codes₀ first cursor₀ i₀ codes cursor i = end - i
 
 mul-first : tie.Need-mul-first Inv-loop μ-loop
 mul-first c = search needs
@@ -41,7 +41,7 @@ slice-write-codes : tie.Need-slice-write-codes Inv-loop μ-loop
 slice-write-codes c = search needs
 
 loop-holds : tie.Need-loop-holds Inv-loop μ-loop
-loop-holds c = (omega arith, simp length-set (omega arith), refl)
+loop-holds c = (omega arith, c .before .before .before .before .before .pre .1 .2 .most, simp length-set (omega arith), refl)
 
 mul-if1 : tie.Need-mul-if1 Inv-loop μ-loop
 mul-if1 c = search needs
@@ -65,7 +65,7 @@ add-read-samples-2 : tie.Need-add-read-samples-2 Inv-loop μ-loop
 add-read-samples-2 c = search needs
 
 read-samples-requires : tie.Need-read-samples-requires Inv-loop μ-loop
-read-samples-requires c κs = (search width-small, omega arith)
+read-samples-requires c κs = (search width-below, omega arith)
 
 add-i : tie.Need-add-i Inv-loop μ-loop
 add-i c = search needs
@@ -74,7 +74,16 @@ loop-less : tie.Need-loop-less Inv-loop μ-loop
 loop-less c = search needs
 
 loop-again : tie.Need-loop-again Inv-loop μ-loop
-loop-again c = (omega arith, ⊎-elim (λ w. search kept-length) (λ w. search kept-length) (c .if1 .came), ⊎-elim (λ w. search samples-read) (λ w. search samples-skip) (c .if1 .came))
+loop-again c =
+    let l = c .before .before .before .loop in
+    let s = c .before .before .before .before .before .before .before .before .before in
+    let read = samples-read (s .args .bytes .now) (s .args .limit) (s .args .own .now) (s .args .gr) _ (l .cursor) (l .i) (l .codes) (l .inv .3) (s .args .end) (c .before .before .loop-test .taken) (l .inv .1) in
+    let skip = samples-skip (s .args .bytes .now) (s .args .limit) (s .args .own .now) (s .args .gr) _ (l .cursor) (l .i) (l .codes) (l .inv .3) (s .args .end) (c .before .before .loop-test .taken) (l .inv .1) in (
+      omega arith,
+      l .inv .1,
+      ⊎-elim (λ w. search kept-length) (λ w. search kept-length) (c .if1 .came),
+      ⊎-elim (λ w. read _ _ (w .0 .taken) _ (s .pre .1 .0) _ (s .pre .1 .1) _ _ (w .4 .ensures) (w .7) (w .8)) (λ w. skip _ _ (w .0 .left) (w .1) (w .2)) (c .if1 .came),
+    )
 
 same-length : tie.Need-same-length Inv-loop μ-loop
 same-length c = omega arith

@@ -12,13 +12,16 @@ use Rattle.mc_unpack.proofs.granules.read_granules.Statement.{statement
 use Rattle.mc_unpack.proofs.granules.read_granules.Tie as tie
 
 abbrev Inv-loop : tie.InvT-loop
-Inv-loop bytes limit lfe own codewords cursor₀ codes₀ gr₀ cursor codes gr = (gr ≤ 12) × (length codes ≡ 3468) × (runFrom bytes limit cursor₀ (granules lfe own) ≡ runFrom bytes limit cursor (times (12 - gr) gr (granuleAt lfe own) codes))
+Inv-loop bytes limit lfe own codewords end cursor₀ codes₀ gr₀ cursor codes gr = (gr ≤ 12) × (length codes ≡ 3468) × (runFrom bytes limit cursor₀ (granules lfe own) ≡ runFrom bytes limit cursor (times (12 - gr) gr (granuleAt lfe own) codes))
 
 abbrev μ-loop : tie.MeasureT-loop
-μ-loop bytes limit lfe own codewords cursor₀ codes₀ gr₀ cursor codes gr = 12 - gr
+μ-loop bytes limit lfe own codewords end cursor₀ codes₀ gr₀ cursor codes gr = 12 - gr
 
 codewords-of-requires : tie.Need-codewords-of-requires Inv-loop μ-loop
 codewords-of-requires c κs = search needs
+
+places-end-requires : tie.Need-places-end-requires Inv-loop μ-loop
+places-end-requires c κs = search needs
 
 loop-holds : tie.Need-loop-holds Inv-loop μ-loop
 unfolding granules
@@ -49,6 +52,7 @@ read-granules-spec =
     Inv-loop
     μ-loop
     codewords-of-requires
+    places-end-requires
     loop-holds
     slice-aggregate-read-granule
     read-granule-requires
