@@ -10,4 +10,5 @@ pub mod Subband
 pub mod Group
 pub mod PredictByLine
 pub mod OutputByMix
+pub mod LayOut
 pub mod Finish

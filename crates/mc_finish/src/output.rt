@@ -1,14 +1,15 @@
 // The output by channel, slot and subband, and the history that the next frame predicts from (ISO/IEC 13818-3, 2.5.3.2.1).
 ghost use mathlib.Core.Path.{_≡_};
 ghost use mathlib.Core.Bool.{cond};
-ghost use Prim.Native.Nat.{_+_, _*_, _<_, _≤_};
+ghost use Prim.Native.Nat.{ℕ, _+_, _*_, _<_, _≤_};
 ghost use lib.Dec.{eqb};
-ghost use lib.ListN.{length};
+ghost use lib.Ieee.{nan};
+ghost use lib.ListN.{length, getD};
 ghost use Rattle.mc_unpack.specs.Places.{msblimit};
 ghost use Rattle.mc_finish.specs.Code.Strided.{strided, across};
 ghost use Rattle.mc_finish.specs.Scale.{scaledBase};
 ghost use Rattle.mc_finish.specs.Output.{outputOf, historyOf};
-ghost use Rattle.mc_finish.specs.Code.OutputByMix.{mixOf, tcsOf, mainBy, mixedBy, SecondFits, secondBy, channelBy, outputBy, baseAlone, lineBy};
+ghost use Rattle.mc_finish.specs.Code.OutputByMix.{mixOf, tcsOf, mainBy, mixedBy, SecondFits, channelBy, mixedOf, withSecond, beyond, baseAlone, lineBy};
 use crate::dematrix::dematrix;
 use crate::scale::chosen;
 use crate::scale::second_base;
@@ -84,24 +85,6 @@ fn mixed_at(x: Mix, tc: u8, left: &[f64], right: &[f64], work: &[f64], j: usize)
     dematrix(x.pair, x.procedure, tc, left[j], right[j], t2, t3, t4)
 }
 
-// A second stereo programme, as it was sent, takes the last two channels below the subband limit.
-fn with_second(x: Mix, mixed: [f64; 5], work: &[f64], j: usize) -> [f64; 5]
-    requires { ⌜ (length (now work) ≡ 3456) × (j < 1152) × SecondFits x ⌝ }
-    ensures { λ r. ⌜ r ≡ secondBy x mixed (now (work .entry)) j ⌝ }
-{
-    let mut values = mixed;
-    if x.second_stereo {
-        let sb = j % 32;
-        if sb < x.limit {
-            let channels = x.channels;
-            let main = x.main;
-            values[channels - 2] = work[1152 * main + j];
-            values[channels - 1] = work[1152 * (main + 1) + j];
-        }
-    }
-    values
-}
-
 // Stores the values at place j of the five channels; +0 beyond the layout.
 fn store(x: Mix, values: [f64; 5], j: usize, output: &mut [f64])
     requires { ⌜ (j < 1152) × (length (now output) ≡ 5760) ⌝ }
@@ -116,7 +99,17 @@ fn store(x: Mix, values: [f64; 5], j: usize, output: &mut [f64])
     }
 }
 
-// All slots and subbands, from both base channels and work.
+// Stores five values at place j of the channels.
+fn store_five(values: [f64; 5], j: usize, output: &mut [f64])
+    requires { ⌜ (j < 1152) × (length (now output) ≡ 5760) ⌝ }
+    ensures { λ _. ⌜ now (output .exit) ≡ across (λ (ch : ℕ). getD values ch nan) j (now (output .entry)) ⌝ }
+{
+    for ch in 0usize..5 {
+        output[j + 1152 * ch] = values[ch];
+    }
+}
+
+// The dematrixed values of all slots and subbands, from both base channels and work.
 fn write_mixed(
     x: Mix,
     tcs: &[u8; 32],
@@ -125,13 +118,52 @@ fn write_mixed(
     work: &[f64],
     output: &mut [f64],
 )
-    requires { ⌜ (length (now left) ≡ 1152) × (length (now right) ≡ 1152) × (length (now work) ≡ 3456) × (length (now output) ≡ 5760) × SecondFits x ⌝ }
-    ensures { λ _. ⌜ now (output .exit) ≡ outputBy x (now (tcs .entry)) (now (left .entry)) (now (right .entry)) (now (work .entry)) ⌝ }
+    requires { ⌜ (length (now left) ≡ 1152) × (length (now right) ≡ 1152) × (length (now work) ≡ 3456) × (length (now output) ≡ 5760) ⌝ }
+    ensures { λ _. ⌜ now (output .exit) ≡ mixedOf x (now (tcs .entry)) (now (left .entry)) (now (right .entry)) (now (work .entry)) ⌝ }
 {
     for j in 0usize..1152 {
         let mixed = mixed_at(x, tcs[j % 32], left, right, work, j);
-        store(x, with_second(x, mixed, work, j), j, output);
+        store_five(mixed, j, output);
     }
+}
+
+// A second stereo programme, as it was sent, takes the last two channels below the subband limit.
+fn write_second(x: Mix, work: &[f64], output: &mut [f64])
+    requires { ⌜ (length (now work) ≡ 3456) × (length (now output) ≡ 5760) × (2 ≤ x .channels) × (x .channels ≤ 5) × (x .main ≤ 1) ⌝ }
+    ensures { λ _. ⌜ now (output .exit) ≡ withSecond x (now (work .entry)) (now (output .entry)) ⌝ }
+{
+    let channels = x.channels;
+    let main = x.main;
+    let limit = x.limit;
+    let at = 1152 * (channels - 2);
+    let from = 1152 * main;
+    for i in 0usize..2304 {
+        if i % 32 < limit {
+            output[at + i] = work[from + i];
+        }
+    }
+}
+
+// +0 in the channels beyond the layout.
+fn clear_beyond(channels: usize, output: &mut [f64])
+    requires { ⌜ (length (now output) ≡ 5760) × (channels ≤ 5) ⌝ }
+    ensures { λ _. ⌜ now (output .exit) ≡ beyond channels (now (output .entry)) ⌝ }
+{
+    let first = 1152 * channels;
+    for k in first..5760 {
+        output[k] = 0.0;
+    }
+}
+
+// The layout, laid over the dematrixed values.
+fn lay_out(x: Mix, work: &[f64], output: &mut [f64])
+    requires { ⌜ (length (now work) ≡ 3456) × (length (now output) ≡ 5760) × (x .channels ≤ 5) × SecondFits x ⌝ }
+    ensures { λ _. ⌜ now (output .exit) ≡ beyond (x .channels) (cond (x .«second_stereo») (withSecond x (now (work .entry)) (now (output .entry))) (now (output .entry))) ⌝ }
+{
+    if x.second_stereo {
+        write_second(x, work, output);
+    }
+    clear_beyond(x.channels, output);
 }
 
 // All slots and subbands where nothing but the base is heard: its channels as they are, and +0 beyond them.
@@ -165,6 +197,7 @@ pub fn write_output<'a>(
     let tc = status.tc_allocation;
     let tcs = tcs_of(&tc);
     write_mixed(x, &tcs, left, second, work, output);
+    lay_out(x, work, output);
 }
 
 // The last nine slots of one subband of a base channel, oldest first.

@@ -3,7 +3,7 @@ use mathlib.Core.Path.{_≡_}
 use mathlib.Core.Bool.{true, _&&_, cond}
 use mathlib.Core.List.{List, [], _∷_}
 use Prim.Native.Nat.{ℕ, _+_, _-_, _*_, _/_, _%_, _≤_}
-use lib.Dec.{ltb}
+use lib.Dec.{ltb, leb}
 use lib.Ieee.{Float, nan}
 use lib.ListN.{getD, set}
 use Rattle.fill.specs.Tab.{tab}
@@ -63,6 +63,31 @@ outputByAt x tcs left right work k =
 
 unfoldable pub outputBy : Mix → List ℕ → List Float → List Float → List Float → List Float
 outputBy x tcs left right work = tab (outputByAt x tcs left right work) 5760
+
+-- ---- the same in three passes: all five dematrixed values, then a second stereo programme over two channels, then +0 beyond the layout
+
+abbrev pub mixedOfAt : Mix → List ℕ → List Float → List Float → List Float → ℕ → Float
+mixedOfAt x tcs left right work k =
+    let j = k % 1152 in
+    getD (mixedBy x (getD tcs (j % 32) 0) left right work j) (k / 1152) nan
+
+unfoldable pub mixedOf : Mix → List ℕ → List Float → List Float → List Float → List Float
+mixedOf x tcs left right work = tab (mixedOfAt x tcs left right work) 5760
+
+-- the element k: a programme whose channels follow on the first main ones, from the first of the last two channels on, below the subband limit
+abbrev pub withSecondAt : ℕ → ℕ → ℕ → List Float → List Float → ℕ → Float
+withSecondAt channels main limit work d k =
+    let at = 1152 * (channels - 2) in
+    cond (leb at k && (ltb k (at + 2304) && ltb (k % 32) limit)) (getD work (1152 * main + (k - at)) nan) (getD d k nan)
+
+unfoldable pub withSecond : Mix → List Float → List Float → List Float
+withSecond x work d = tab (withSecondAt (x .channels) (x .main) (x .limit) work d) 5760
+
+abbrev pub beyondAt : ℕ → List Float → ℕ → Float
+beyondAt channels d k = cond (ltb k (1152 * channels)) (getD d k nan) zero64
+
+unfoldable pub beyond : ℕ → List Float → List Float
+beyond channels d = tab (beyondAt channels d) 5760
 
 -- the five values where nothing but the base is heard, and the element k of that output
 abbrev pub baseBy : List Float → List Float → ℕ → List Float

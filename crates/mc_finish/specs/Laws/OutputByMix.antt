@@ -27,7 +27,7 @@ use Rattle.mc_finish.specs.Scale.{Base, chosen}
 use Rattle.mc_finish.specs.Predict.{baseFor}
 use Rattle.mc_finish.specs.Dematrix.{dematrixed, passed, weighted, unweighted}
 use Rattle.mc_finish.specs.Output.{baseValue, mainAt, mixedAt, channels, second, outputAt, outputOf, historyAt, historyOf}
-use Rattle.mc_finish.specs.Code.OutputByMix.{mixOf, tcsOf, mixedBy, SecondFits, secondBy, channelBy, mainBy, outputByAt, outputBy, baseBy, baseAloneAt, baseAlone, lineBy, historyBy}
+use Rattle.mc_finish.specs.Code.OutputByMix.{mixOf, tcsOf, mixedBy, SecondFits, secondBy, channelBy, mainBy, outputBy, mixedOfAt, baseBy, baseAloneAt, baseAlone, lineBy, historyBy}
 use Rattle.mc_finish.specs.Laws.Chosen.{first-base, chosen-base}
 use Rattle.mc_finish.specs.Code.Strided.{strided, across}
 use Rattle.mc_finish.specs.Laws.Strided.{length-strided, getD-strided, strided-other}
@@ -53,11 +53,11 @@ turn-across {z} {f} {v} {d} {dst} {t} p h e =
         ∙ (getD-strided 1152 v t dst z 5 (k / 1152) (omega arith) q (omega (arith, p .room, p .long)) ∙ (e (k / 1152) q ∙ ap f w))
 
 -- the element that stands at slot and subband t of channel ch
-pub across-value :
+pub mixed-value :
     (x : Mix) (tcs : List ℕ) (left right work : List Float) (t ch : ℕ)
     → t < 1152
-    → channelBy x (secondBy x (mixedBy x (getD tcs (t % 32) 0) left right work t) work t) ch ≡ outputByAt x tcs left right work (t + 1152 * ch)
-across-value x tcs left right work t ch h =
+    → getD (mixedBy x (getD tcs (t % 32) 0) left right work t) ch nan ≡ mixedOfAt x tcs left right work (t + 1152 * ch)
+mixed-value x tcs left right work t ch h =
     let j : (t + 1152 * ch) % 1152 ≡ t = omega arith in
     let c : (t + 1152 * ch) / 1152 ≡ ch = omega arith in
     rw (j, c)
@@ -117,7 +117,7 @@ length-unweighted p xs =
     byPair-elim (λ (i : ℕ). length (unweighted i p xs) ≡ 5) refl refl refl refl refl
     (λ i o. rw (o .not32, o .not31, o .not30, o .not22, o .not21))
 
-length-dematrixed : (pair p tc : ℕ) (lo ro t2 t3 t4 : Float) → length (dematrixed pair p tc lo ro t2 t3 t4) ≡ 5
+pub length-dematrixed : (pair p tc : ℕ) (lo ro t2 t3 t4 : Float) → length (dematrixed pair p tc lo ro t2 t3 t4) ≡ 5
 unfolding dematrixed
 length-dematrixed pair p tc lo ro t2 t3 t4 = go (eqb p 3)
   where
@@ -126,7 +126,7 @@ length-dematrixed pair p tc lo ro t2 t3 t4 = go (eqb p 3)
     go false = length-unweighted p (weighted pair p tc lo ro t2 t3 t4) pair
 
 -- channel ch, with a second stereo programme or without
-second-value :
+pub second-value :
     (x : Mix) (mixed work : List Float) (j ch : ℕ)
     → SecondFits x
     → length mixed ≡ 5

@@ -4,6 +4,9 @@ use lib.Dec.{eqb}
 use lib.ListN.{length}
 use Rattle.mc_finish.specs.Scale.{scaledBase}
 use Rattle.mc_finish.specs.Laws.Chosen.{chosen-long}
+use Rattle.mc_config.specs.ConfigLaws.{layout-length}
+use Rattle.mc_unpack.specs.Places.{config}
+use Rattle.mc_finish.specs.Laws.LayOut.{mixed-all, laid-out}
 use Rattle.mc_finish.specs.Laws.OutputByMix.{second-fits, output-written, alone-written}
 use borrow.Author.Needs.{needs}
 use Rattle.mc_finish.proofs.output.write_output.Statement.{statement}
@@ -38,15 +41,26 @@ write-mixed-requires c κs =
     let s = c .before .before .before .before .before .before .before .before .before .before .before .before .before .before .before in
     let a = s .args in
     let long = chosen-long (eqb (a .s .«base_channels») 1) 1 (a .left .now) (a .right .now) (s .pre .0) (s .pre .1) in
-    (s .pre .0, ap length (c .before .before .before .before .before .before .before .before .before .second-base .ensures) ∙ long, s .pre .2, s .pre .3, rw (c .before .before .before .before .before .before .before .before .before .before .mix-of .ensures) (second-fits (a .s)))
+    (s .pre .0, ap length (c .before .before .before .before .before .before .before .before .before .second-base .ensures) ∙ long, s .pre .2, s .pre .3)
+
+lay-out-requires : tie.Need-lay-out-requires
+lay-out-requires c κs =
+    let s = c .before .before .before .before .before .before .before .before .before .before .before .before .before .before .before .before .before .before .before in
+    let x = c .before .before .before .before .before .before .before .before .before .before .before .before .before .before .mix-of in
+    (s .pre .2, ap length (c .before .before .before .write-mixed .ensures) ∙ mixed-all _ _ _ _ _, rw (x .ensures) (layout-length (config (s .args .s)) .1), rw (x .ensures) (second-fits (s .args .s)))
 
 same-length-2 : tie.Need-same-length-2
 same-length-2 c = search needs
 
 returns-2 : tie.Need-returns-2
 returns-2 c =
-    let a = c .before .before .before .before .before .before .before .before .before .before .before .before .before .before .before .before .before .before .args in
-    output-written (a .s) (scaledBase (a .left .now) (a .right .now)) (a .work .now) (c .before .before .before .before .before .before .before .before .before .before .before .before .before .mix-of .ensures) (c .before .before .before .before .before .tcs-of .ensures) (c .before .before .before .before .before .before .before .before .before .before .before .before .second-base .ensures) (c .before .before .write-mixed .ensures)
+    let a = c .before .before .before .before .before .before .before .before .before .before .before .before .before .before .before .before .before .before .before .before .before .before .args in
+    let x = c .before .before .before .before .before .before .before .before .before .before .before .before .before .before .before .before .before .mix-of in
+    let second = c .before .before .before .before .before .before .before .before .before .before .before .before .before .before .before .before .second-base in
+    let tcs = c .before .before .before .before .before .before .before .before .before .tcs-of in
+    let mixed = c .before .before .before .before .before .before .write-mixed in
+    output-written (a .s) (scaledBase (a .left .now) (a .right .now)) (a .work .now) (x .ensures) (tcs .ensures) (second .ensures)
+    (c .before .before .lay-out .ensures ∙ rw (mixed .ensures) (laid-out (x .result) (tcs .result) (a .left .now) _ (a .work .now) (rw (x .ensures) (second-fits (a .s)))))
 
 pub write-output-spec : {M : Type 1} → statement M
 write-output-spec =
@@ -59,5 +73,6 @@ write-output-spec =
     returns
     tcs-of-requires
     write-mixed-requires
+    lay-out-requires
     same-length-2
     returns-2)
