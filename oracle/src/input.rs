@@ -59,6 +59,23 @@ impl FrameInput {
             nb_steps: self.base_nb_steps,
         }
     }
+
+    /// The input in words, without its base, for whoever has to look into a difference.
+    pub fn words(&self) -> String {
+        let bytes = self.head.iter().take(40);
+        let head: String = bytes.map(|byte| format!("{byte:02x}")).collect();
+        format!(
+            "base channels {}, rate {}, LFE allocation {}\nhead of {} bytes and {} bits: {head}\n\
+             payload of {} bytes and {} bits",
+            self.base_channels,
+            self.sample_rate,
+            self.lfe_allocation,
+            self.head.len(),
+            self.head_bits,
+            self.payload.len(),
+            self.payload_bits,
+        )
+    }
 }
 
 /// The span reads the rate and the mode of a base header, and the latter only for whether it is mono.

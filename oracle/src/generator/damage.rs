@@ -14,7 +14,8 @@ pub enum Part {
     Payload,
 }
 
-fn string(input: &mut FrameInput, part: Part) -> (&mut Vec<u8>, &mut u64) {
+/// A string and its bit count.
+pub fn string(input: &mut FrameInput, part: Part) -> (&mut Vec<u8>, &mut u64) {
     match part {
         Part::Head => (&mut input.head, &mut input.head_bits),
         Part::Payload => (&mut input.payload, &mut input.payload_bits),

@@ -1,6 +1,7 @@
 //! A frame as a plan: all fields that go on the wire and all that is lent beside them.
 
 use super::base::Base;
+use super::damage::Part;
 use super::head::Head;
 use super::layout::{Layout, code_width, group_of, grouped, subband_limit};
 use super::payload::Payload;
@@ -214,7 +215,7 @@ impl Plan {
     }
 
     /// The frame with these strings.
-    pub fn lent(&self, head: &Written, payload: &Written) -> FrameInput {
+    fn lent(&self, head: &Written, payload: &Written) -> FrameInput {
         FrameInput {
             head: head.bytes.clone(),
             head_bits: head.bits,
@@ -228,6 +229,35 @@ impl Plan {
             lfe_allocation: self.payload.lfe_allocation,
             nb_steps: self.payload.steps,
         }
+    }
+}
+
+/// A plan with its strings written.
+pub struct Made {
+    pub plan: Plan,
+    pub head: Written,
+    pub payload: Written,
+}
+
+impl Made {
+    pub fn of(plan: Plan) -> Made {
+        Made {
+            head: plan.head_written(),
+            payload: plan.payload_written(),
+            plan,
+        }
+    }
+
+    pub fn written(&self, part: Part) -> &Written {
+        match part {
+            Part::Head => &self.head,
+            Part::Payload => &self.payload,
+        }
+    }
+
+    /// The frame as it is lent.
+    pub fn input(&self) -> FrameInput {
+        self.plan.lent(&self.head, &self.payload)
     }
 }
 

@@ -1,10 +1,10 @@
 //! Chooses the frames of the list and judges them.
 
 use super::record::{Expected, Record};
-use super::spoil::{Frame, SPOILS};
+use super::spoil::SPOILS;
 use super::values::{buffer_hashes, state_hash};
 use crate::flat::packed;
-use crate::generator::{Plan, Random, Source};
+use crate::generator::{Made, Plan, Random, Source};
 use crate::scope::{Buffers, State, judge};
 use std::collections::BTreeSet;
 
@@ -46,14 +46,14 @@ impl List {
         self.records.push(record);
     }
 
-    fn record(&mut self, frame: &Frame) -> Record {
+    fn record(&mut self, frame: &Made) -> Record {
         let seed = self.random.bits64() | 1;
         Record::of(&frame.plan, &frame.head, &frame.payload, seed)
     }
 
     /// The frame as it is. It starts a new state where that before it is no good for it, and at times
     /// anyway: a fresh one, or one within a stream.
-    fn push_whole(&mut self, frame: &Frame, anyway: bool) {
+    fn push_whole(&mut self, frame: &Made, anyway: bool) {
         let count = frame.plan.layout().outputs() as u8;
         let mut record = self.record(frame);
         let fits = [0, count.into()].contains(&self.state.count) && sound(&self.state);
@@ -65,7 +65,7 @@ impl List {
     }
 
     /// The frame changed in the least used way that it has a hold for.
-    fn push_spoiled(&mut self, frame: &Frame) {
+    fn push_spoiled(&mut self, frame: &Made) {
         let mut ways: Vec<usize> = (0..SPOILS.len()).collect();
         ways.sort_by_key(|&way| self.used[way]);
         for way in ways {
@@ -141,7 +141,7 @@ fn shapes() -> Vec<(u64, u64)> {
 }
 
 /// Frames of 3/2 that show the predictors, groups and counts that are left.
-fn missing_predictors(seen: &mut BTreeSet<Feature>) -> Vec<Frame> {
+fn missing_predictors(seen: &mut BTreeSet<Feature>) -> Vec<Made> {
     let shapes = (0..Plan::SHAPES).filter(|&k| Plan::plain_of_shape(k).layout().main == 3);
     let shapes: Vec<u64> = shapes.collect();
     let predictors = |features: &BTreeSet<Feature>| {
@@ -152,7 +152,7 @@ fn missing_predictors(seen: &mut BTreeSet<Feature>) -> Vec<Frame> {
     let mut seed = 0;
     while predictors(seen) < 8 * 6 * 4 {
         let shape = shapes[seed as usize % shapes.len()];
-        let frame = Frame::of(Plan::of_shape(shape, seed));
+        let frame = Made::of(Plan::of_shape(shape, seed));
         let fresh: BTreeSet<Feature> = features(&frame.plan).difference(seen).copied().collect();
         if predictors(&fresh) > 0 && frame.payload.bytes.len() <= SHORT {
             seen.extend(fresh);
@@ -164,10 +164,10 @@ fn missing_predictors(seen: &mut BTreeSet<Feature>) -> Vec<Frame> {
 }
 
 /// Of the plans that are tried for a shape, the one that shows most that was not seen before.
-fn chosen(shape: u64, turn: u64, seen: &mut BTreeSet<Feature>) -> Frame {
+fn chosen(shape: u64, turn: u64, seen: &mut BTreeSet<Feature>) -> Made {
     let seeds = (0..TRIED).map(|k| 1000 * shape + 100 * turn + k);
     let plans = seeds.map(|seed| Plan::of_shape(shape, seed));
-    let frames: Vec<Frame> = plans.map(Frame::of).collect();
+    let frames: Vec<Made> = plans.map(Made::of).collect();
     let best = frames.into_iter().max_by_key(|frame| {
         let fresh = features(&frame.plan).difference(seen).count();
         let short = frame.payload.bytes.len() <= SHORT;
@@ -179,14 +179,14 @@ fn chosen(shape: u64, turn: u64, seen: &mut BTreeSet<Feature>) -> Frame {
 }
 
 /// The longest payload and, with crosstalk, the longest head.
-fn longest(seed: u64) -> Frame {
+fn longest(seed: u64) -> Made {
     let mut plan = Plan::longest();
     let random = Plan::of_shape(0, seed);
     plan.head.crosstalk_on = seed == 1;
     plan.payload.scalefactors = random.payload.scalefactors;
     plan.payload.coefficients = random.payload.coefficients;
     plan.payload.delays = random.payload.delays;
-    Frame::of(plan)
+    Made::of(plan)
 }
 
 /// What a plan shows of tcs, codes, predictors, classes and the rest.

@@ -2,27 +2,10 @@
 
 use super::record::Record;
 use crate::generator::writer::put;
-use crate::generator::{Kind, Plan, Random, Source, Written};
-
-/// A plan with its strings written.
-pub struct Frame {
-    pub plan: Plan,
-    pub head: Written,
-    pub payload: Written,
-}
-
-impl Frame {
-    pub fn of(plan: Plan) -> Frame {
-        Frame {
-            head: plan.head_written(),
-            payload: plan.payload_written(),
-            plan,
-        }
-    }
-}
+use crate::generator::{Kind, Made, Random, Source, Written};
 
 /// A way to change a frame; false where the frame gives no hold for it.
-pub type Spoil = fn(&mut Random, &Frame, &mut Record) -> bool;
+pub type Spoil = fn(&mut Random, &Made, &mut Record) -> bool;
 
 /// The answer, 0 for acceptance, and the ways that lead to it together. Those of the last rows break
 /// two rules, and the answer is that of the first in document 01's order.
@@ -63,13 +46,13 @@ pub const SPOILS: [(u64, &[Spoil]); 34] = [
     (4, &[reserved_scalefactor, other_layout]),
 ];
 
-fn longest_payload(_: &mut Random, _: &Frame, record: &mut Record) -> bool {
+fn longest_payload(_: &mut Random, _: &Made, record: &mut Record) -> bool {
     (record.payload_len, record.payload_bits) = (8192, 65_536);
     true
 }
 
 /// Ones after the used bits of the head, some within its bit count.
-fn bits_after_the_head(random: &mut Random, _: &Frame, record: &mut Record) -> bool {
+fn bits_after_the_head(random: &mut Random, _: &Made, record: &mut Record) -> bool {
     for at in record.head_bits..8 * record.head.len() as u32 {
         put(&mut record.head, at.into(), 1, 1);
     }
@@ -78,23 +61,23 @@ fn bits_after_the_head(random: &mut Random, _: &Frame, record: &mut Record) -> b
     true
 }
 
-fn head_cut(random: &mut Random, _: &Frame, record: &mut Record) -> bool {
+fn head_cut(random: &mut Random, _: &Made, record: &mut Record) -> bool {
     record.head_bits = random.below(record.head_bits);
     true
 }
 
-fn head_cut_by_one(_: &mut Random, _: &Frame, record: &mut Record) -> bool {
+fn head_cut_by_one(_: &mut Random, _: &Made, record: &mut Record) -> bool {
     record.head_bits -= 1;
     record.head_len = record.head_bits.div_ceil(8) as u16;
     true
 }
 
-fn payload_cut(random: &mut Random, _: &Frame, record: &mut Record) -> bool {
+fn payload_cut(random: &mut Random, _: &Made, record: &mut Record) -> bool {
     record.payload_bits = random.below(record.payload_bits);
     true
 }
 
-fn payload_cut_by_one(_: &mut Random, frame: &Frame, record: &mut Record) -> bool {
+fn payload_cut_by_one(_: &mut Random, frame: &Made, record: &mut Record) -> bool {
     record.payload_bits = record.payload_bits.saturating_sub(1);
     record.payload_len = record.payload_bits.div_ceil(8) as u16;
     frame.payload.bits > 0
@@ -111,7 +94,7 @@ fn pick(random: &mut Random, written: &Written, kinds: &[Kind]) -> Option<(u64, 
 }
 
 /// The last code of the width, which a field of one bit always lists.
-fn unlisted_code(random: &mut Random, frame: &Frame, record: &mut Record) -> bool {
+fn unlisted_code(random: &mut Random, frame: &Made, record: &mut Record) -> bool {
     let field = pick(random, &frame.head, &[Kind::Crosstalk]);
     field.is_some_and(|(at, width)| {
         put(&mut record.head, at, width, (1 << width) - 1);
@@ -119,7 +102,7 @@ fn unlisted_code(random: &mut Random, frame: &Frame, record: &mut Record) -> boo
     })
 }
 
-fn layer_three(random: &mut Random, frame: &Frame, record: &mut Record) -> bool {
+fn layer_three(random: &mut Random, frame: &Made, record: &mut Record) -> bool {
     let field = pick(random, &frame.head, &[Kind::LayerThree]);
     field.is_some_and(|(at, width)| {
         put(&mut record.head, at, width, 1);
@@ -127,7 +110,7 @@ fn layer_three(random: &mut Random, frame: &Frame, record: &mut Record) -> bool 
     })
 }
 
-fn reserved_scalefactor(random: &mut Random, frame: &Frame, record: &mut Record) -> bool {
+fn reserved_scalefactor(random: &mut Random, frame: &Made, record: &mut Record) -> bool {
     let kinds = [Kind::Scalefactor, Kind::LfeScalefactor];
     pick(random, &frame.payload, &kinds).is_some_and(|(at, width)| {
         put(&mut record.payload, at, width, 63);
@@ -136,7 +119,7 @@ fn reserved_scalefactor(random: &mut Random, frame: &Frame, record: &mut Record)
 }
 
 /// Cut inside the scalefactor that is reserved.
-fn reserved_scalefactor_cut(random: &mut Random, frame: &Frame, record: &mut Record) -> bool {
+fn reserved_scalefactor_cut(random: &mut Random, frame: &Made, record: &mut Record) -> bool {
     pick(random, &frame.payload, &[Kind::Scalefactor]).is_some_and(|(at, width)| {
         put(&mut record.payload, at, width, 63);
         record.payload_bits = at as u32 + 1 + random.below(width - 1);
@@ -144,75 +127,75 @@ fn reserved_scalefactor_cut(random: &mut Random, frame: &Frame, record: &mut Rec
     })
 }
 
-fn scfsi_cut(random: &mut Random, frame: &Frame, record: &mut Record) -> bool {
+fn scfsi_cut(random: &mut Random, frame: &Made, record: &mut Record) -> bool {
     pick(random, &frame.payload, &[Kind::Scfsi]).is_some_and(|(at, _)| {
         record.payload_bits = at as u32 + 1;
         true
     })
 }
 
-fn other_layout(random: &mut Random, frame: &Frame, record: &mut Record) -> bool {
+fn other_layout(random: &mut Random, frame: &Made, record: &mut Record) -> bool {
     let count = 1 + random.below(5);
     record.start = Some((count as u8, 7));
     count as usize != frame.plan.layout().outputs()
 }
 
-fn rate(random: &mut Random, _: &Frame, record: &mut Record) -> bool {
+fn rate(random: &mut Random, _: &Made, record: &mut Record) -> bool {
     record.rate = random.pick(&[0, 22_050, 44_101, 96_000]);
     true
 }
 
-fn base_count(random: &mut Random, _: &Frame, record: &mut Record) -> bool {
+fn base_count(random: &mut Random, _: &Made, record: &mut Record) -> bool {
     record.base_channels = random.pick(&[0, 3, 255]);
     true
 }
 
 /// One channel lent where two are said, or the other way round.
-fn other_base_count(_: &mut Random, _: &Frame, record: &mut Record) -> bool {
+fn other_base_count(_: &mut Random, _: &Made, record: &mut Record) -> bool {
     record.base_channels = 3 - record.base_channels;
     true
 }
 
-fn lfe_beyond_15(random: &mut Random, _: &Frame, record: &mut Record) -> bool {
+fn lfe_beyond_15(random: &mut Random, _: &Made, record: &mut Record) -> bool {
     record.lfe_allocation = random.pick(&[16, 255]);
     true
 }
 
-fn head_bit_count(_: &mut Random, _: &Frame, record: &mut Record) -> bool {
+fn head_bit_count(_: &mut Random, _: &Made, record: &mut Record) -> bool {
     record.head_bits = 8 * u32::from(record.head_len) + 1;
     true
 }
 
-fn payload_bit_count(random: &mut Random, _: &Frame, record: &mut Record) -> bool {
+fn payload_bit_count(random: &mut Random, _: &Made, record: &mut Record) -> bool {
     let end = 8 * u32::from(record.payload_len);
     record.payload_bits = random.pick(&[end + 1, u32::MAX]);
     true
 }
 
-fn head_of_8193_bytes(_: &mut Random, _: &Frame, record: &mut Record) -> bool {
+fn head_of_8193_bytes(_: &mut Random, _: &Made, record: &mut Record) -> bool {
     record.head_len = 8193;
     true
 }
 
-fn payload_of_8193_bytes(_: &mut Random, _: &Frame, record: &mut Record) -> bool {
+fn payload_of_8193_bytes(_: &mut Random, _: &Made, record: &mut Record) -> bool {
     record.payload_len = 8193;
     true
 }
 
-fn base_steps(random: &mut Random, _: &Frame, record: &mut Record) -> bool {
+fn base_steps(random: &mut Random, _: &Made, record: &mut Record) -> bool {
     let last = 32 * usize::from(record.base_channels) - 1;
     let any = random.below(32) as usize;
     record.base_classes[random.pick(&[any, last])] = 18;
     true
 }
 
-fn state_count(random: &mut Random, _: &Frame, record: &mut Record) -> bool {
+fn state_count(random: &mut Random, _: &Made, record: &mut Record) -> bool {
     record.start = Some((random.pick(&[6, 255]), 0));
     true
 }
 
 /// A wild value in the lent base; of a mono base only the left is.
-fn wild_base(random: &mut Random, _: &Frame, record: &mut Record) -> bool {
+fn wild_base(random: &mut Random, _: &Made, record: &mut Record) -> bool {
     let first = if random.flag() { 0 } else { 2304 };
     let end = if record.right { 2304 } else { 1152 };
     let any = random.below(end);
@@ -221,12 +204,12 @@ fn wild_base(random: &mut Random, _: &Frame, record: &mut Record) -> bool {
     true
 }
 
-fn not_a_number(_: &mut Random, _: &Frame, record: &mut Record) -> bool {
+fn not_a_number(_: &mut Random, _: &Made, record: &mut Record) -> bool {
     record.wild.0 = 5;
     true
 }
 
-fn wild_history(random: &mut Random, _: &Frame, record: &mut Record) -> bool {
+fn wild_history(random: &mut Random, _: &Made, record: &mut Record) -> bool {
     record.start = Some((0, 0));
     let any = random.below(576);
     let place = 4608 + random.pick(&[any, 575]);
@@ -235,7 +218,7 @@ fn wild_history(random: &mut Random, _: &Frame, record: &mut Record) -> bool {
 }
 
 /// A step count that no class has, or one at a place that is not transmitted.
-fn allocation(random: &mut Random, frame: &Frame, record: &mut Record) -> bool {
+fn allocation(random: &mut Random, frame: &Made, record: &mut Record) -> bool {
     let place = random.below(96) as usize;
     let transmitted = frame.plan.source(place / 32, place % 32) == Source::Transmitted;
     let class = 1 + random.below(17) as u8;
@@ -243,7 +226,7 @@ fn allocation(random: &mut Random, frame: &Frame, record: &mut Record) -> bool {
     true
 }
 
-fn lfe_without_lfe(random: &mut Random, frame: &Frame, record: &mut Record) -> bool {
+fn lfe_without_lfe(random: &mut Random, frame: &Made, record: &mut Record) -> bool {
     record.lfe_allocation = 1 + random.below(15) as u8;
     !frame.plan.head.lfe
 }

@@ -10,7 +10,7 @@ pub const LENGTHS: [usize; 4] = [RAW, RAW, OUTPUT, LFE];
 const NAMES: [&str; 4] = ["raw", "work", "output", "lfe"];
 
 /// Elements before and after each buffer, which no call may write.
-const MARGIN: usize = 8;
+pub const MARGIN: usize = 8;
 
 /// A place where library and oracle differ.
 #[derive(Debug)]

@@ -76,29 +76,15 @@ fn same_bits(one: &State, other: &State) -> bool {
 
 /// A case in words, for whoever has to look into a difference.
 pub fn words(case: &Case) -> String {
-    let input = &case.input;
-    let head: String = input
-        .head
-        .iter()
-        .take(40)
-        .map(|b| format!("{b:02x}"))
-        .collect();
     let wrong = case
         .wrong_length
         .map(|(slice, length)| format!(", {} of length {length}", SLICES[slice]));
     format!(
-        "done: {:?}{}; base channels {}, rate {}, LFE allocation {}, layout count {}, accepted frames \
-         {}\nhead of {} bytes and {} bits: {head}\npayload of {} bytes and {} bits",
+        "done: {:?}{}; layout count {}, accepted frames {}, {}",
         case.done,
         wrong.unwrap_or_default(),
-        input.base_channels,
-        input.sample_rate,
-        input.lfe_allocation,
         case.state.count,
         case.state.frames,
-        input.head.len(),
-        input.head_bits,
-        input.payload.len(),
-        input.payload_bits,
+        case.input.words(),
     )
 }

@@ -1,10 +1,10 @@
 //! Sequences of frames through one state: spoiled ones, then the good one, then the next plan.
 
-use crate::case::{Case, Made, spoil};
+use crate::case::{Case, spoil};
 use crate::lent::Compared;
 use crate::run::{Run, words};
 use oracle::generator::damage::{Part, cut};
-use oracle::generator::{Plan, Random, base};
+use oracle::generator::{Made, Plan, Random, base};
 use oracle::scope::State;
 use std::sync::LazyLock;
 

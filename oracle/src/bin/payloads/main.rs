@@ -8,10 +8,10 @@ mod record;
 mod timing;
 
 use call::Buffers;
-use case::{Case, Made, spoil};
+use case::{Case, spoil};
 use coverage::Coverage;
 use oracle::generator::damage::{Part, cut};
-use oracle::generator::{Plan, Random};
+use oracle::generator::{Made, Plan, Random};
 use oracle::scope::Refusal;
 use record::{Record, judged, packed};
 use std::process::ExitCode;
@@ -134,32 +134,13 @@ fn longest(seed: u64) -> Plan {
     plan
 }
 
-/// A case in words, for whoever has to look into a difference.
+/// A case in words.
 fn words(case: &Case) -> String {
-    let input = &case.input;
-    let head: Vec<String> = input
-        .head
-        .iter()
-        .take(40)
-        .map(|b| format!("{b:02x}"))
-        .collect();
     let wrong = case
         .wrong_length
         .map(|(slice, length)| format!(", {} of length {length}", case::slice_name(slice)));
-    format!(
-        "done: {:?}{}; base channels {}, rate {}, LFE allocation {}\nhead of {} bytes and {} bits: {}\n\
-         payload of {} bytes and {} bits",
-        case.done,
-        wrong.unwrap_or_default(),
-        input.base_channels,
-        input.sample_rate,
-        input.lfe_allocation,
-        input.head.len(),
-        input.head_bits,
-        head.concat(),
-        input.payload.len(),
-        input.payload_bits,
-    )
+    let (wrong, input) = (wrong.unwrap_or_default(), case.input.words());
+    format!("done: {:?}{wrong}; {input}", case.done)
 }
 
 /// The word of the command line at this place, or the number that stands in for it.

@@ -1,9 +1,9 @@
 //! Reading alone, on both sides in one process and on the same payloads.
 
 use crate::call::{BUFFERS, Buffers};
-use crate::case::{Case, Made};
+use crate::case::Case;
 use oracle::flat::Flat;
-use oracle::generator::Plan;
+use oracle::generator::{Made, Plan};
 use oracle::{FrameInput, reference_payload};
 use std::hint::black_box;
 use std::time::Instant;
