@@ -57,8 +57,7 @@ loop-again : tie.Need-loop-again Inv-loop μ-loop
 loop-again c =
     let l = c .before .before .before .before .before in
     let a = c .before .before .before .before .before .before .before .before .before .args in
-    let h = c .before .before .before .before .loop-test .taken in
-    (omega arith, ap length (c .before .store-line .ensures) ∙ (length-strided 1 _ _ _ 9 ∙ l .loop .inv .1), rw (c .before .store-line .ensures, c .before .before .before .chosen .ensures) (turn-line (a .left .now) _ (l .loop .inv .2) h))
+    (omega arith, ap length (c .before .store-line .ensures) ∙ (length-strided 1 _ _ _ 9 ∙ l .loop .inv .1), rw (c .before .store-line .ensures, c .before .before .before .chosen .ensures) (turn-line (a .left .now) _ (l .loop .inv .2) (omega arith)))
 
 returns : tie.Need-returns Inv-loop μ-loop
 returns c =
