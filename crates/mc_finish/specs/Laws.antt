@@ -11,4 +11,6 @@ pub mod Group
 pub mod PredictByLine
 pub mod OutputByMix
 pub mod LayOut
+pub mod BaseAlone
+pub mod History
 pub mod Finish

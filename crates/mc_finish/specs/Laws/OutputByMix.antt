@@ -1,7 +1,7 @@
 -- The code's output is that of the definition.
 use mathlib.Core.Path.{_≡_, refl, sym, ap, _∙_}
-use mathlib.Core.Bool.{Bool, true, false, _&&_, not, cond, false≢true}
-use mathlib.Core.List.{List, [], _∷_}
+use mathlib.Core.Bool.{Bool, true, false, _&&_, cond}
+use mathlib.Core.List.{List}
 use mathlib.Core.Logic.{⊎-elim}
 use Prim.Native.Nat.{ℕ, _+_, _-_, _*_, _/_, _%_, _≤_, _<_}
 use native.Mathlib.Nat.{add-zero, eq-or-lt-of-le, eq-zero-or-pos}
@@ -10,12 +10,11 @@ use lib.Dec.{eqb, ltb, leb}
 use lib.Ieee.{Float, nan}
 use lib.ListN.{length, getD, set, length-set, length-append}
 use lib.Seq.{getD-set-same, getD-set-other}
-use borrow.Author.Tests.{eqb-true, ltb-true, le-leb, lt-leb}
+use borrow.Author.Tests.{ltb-true, le-leb, lt-leb}
 use Rattle.floats.specs.Binary64.{zero64}
-use Rattle.fill.specs.Tab.{tab}
-use Rattle.fill.specs.TabLaws.{getD-tab, all-filled}
-use Rattle.fill.specs.ByTurn.{ByTurn, turn-ends}
-use Rattle.mc_config.specs.CaseLaws.{cond-all, byPair-elim}
+use Rattle.fill.specs.TabLaws.{getD-tab}
+use Rattle.fill.specs.ByTurn.{ByTurn}
+use Rattle.mc_config.specs.CaseLaws.{byPair-elim}
 use Rattle.mc_config.specs.Config.{mainOf, configOf, frontChannels, surroundChannels, layoutOf}
 use Rattle.mc_config.specs.ConfigLaws.{layout-length, nmch-config, nmch-most}
 use Rattle.mc_config.specs.Groups.{sbgrOf}
@@ -26,10 +25,10 @@ use Rattle.mc_finish.specs.declared.output.Mix.{Mix}
 use Rattle.mc_finish.specs.Scale.{Base, chosen}
 use Rattle.mc_finish.specs.Predict.{baseFor}
 use Rattle.mc_finish.specs.Dematrix.{dematrixed, passed, weighted, unweighted}
-use Rattle.mc_finish.specs.Output.{baseValue, mainAt, mixedAt, channels, second, outputAt, outputOf, historyAt, historyOf}
-use Rattle.mc_finish.specs.Code.OutputByMix.{mixOf, tcsOf, mixedBy, SecondFits, secondBy, channelBy, mainBy, outputBy, mixedOfAt, baseBy, baseAloneAt, baseAlone, lineBy, historyBy}
-use Rattle.mc_finish.specs.Laws.Chosen.{first-base, chosen-base}
-use Rattle.mc_finish.specs.Code.Strided.{strided, across}
+use Rattle.mc_finish.specs.Output.{baseValue, mainAt, mixedAt, channels, second, outputAt, outputOf}
+use Rattle.mc_finish.specs.Code.OutputByMix.{mixOf, tcsOf, mixedBy, SecondFits, secondBy, channelBy, outputBy, mixedOfAt}
+use Rattle.mc_finish.specs.Laws.Chosen.{first-base}
+use Rattle.mc_finish.specs.Code.Strided.{across}
 use Rattle.mc_finish.specs.Laws.Strided.{length-strided, getD-strided, strided-other}
 use Rattle.mc_finish.specs.Laws.TabSame.{tab-same}
 use Rattle.mc_finish.specs.Laws.TurnBlock.{turn-block}
@@ -219,107 +218,3 @@ module _ (s : McSettings) (b : Base) (work : List Float) where
       → output ≡ outputOf s b work
   unfolding right
   output-written ex et es e = rw (ex, et, es) at e ∙ output-by-mix
-
--- ---- where nothing but the base is heard
-
-unmixed : (p tc : ℕ) (lo ro t2 t3 t4 : Float) (pair : ℕ) → mainOf pair ≡ 0 → dematrixed pair p tc lo ro t2 t3 t4 ≡ lo ∷ ro ∷ zero64 ∷ zero64 ∷ zero64 ∷ []
-unfolding dematrixed passed unweighted weighted
-unmixed p tc lo ro t2 t3 t4 =
-    byPair-elim (λ (i : ℕ). mainOf i ≡ 0 → dematrixed i p tc lo ro t2 t3 t4 ≡ lo ∷ ro ∷ zero64 ∷ zero64 ∷ zero64 ∷ [])
-    (λ e. absurd (omega arith)) (λ e. absurd (omega arith)) (λ e. absurd (omega arith)) (λ e. absurd (omega arith)) (λ e. absurd (omega arith))
-    (λ i o e. rw (o .not32, o .not31, o .not30, o .not22, o .not21) (same (eqb p 3)))
-  where
-    same : (b : Bool) → cond b (lo ∷ ro ∷ zero64 ∷ zero64 ∷ zero64 ∷ []) (lo ∷ ro ∷ zero64 ∷ zero64 ∷ zero64 ∷ []) ≡ lo ∷ ro ∷ zero64 ∷ zero64 ∷ zero64 ∷ []
-    same true = refl
-    same false = refl
-
--- the element that stands at slot and subband t of channel ch
-pub base-value :
-    (x : Mix) (left right : List Float) (t ch : ℕ)
-    → t < 1152
-    → channelBy x (baseBy left right t) ch ≡ baseAloneAt x left right (t + 1152 * ch)
-base-value x left right t ch h =
-    let j : (t + 1152 * ch) % 1152 ≡ t = omega arith in
-    let c : (t + 1152 * ch) / 1152 ≡ ch = omega arith in
-    rw (j, c)
-
-alone-by-mix :
-    (x : Mix) (tcs : List ℕ) (left right work : List Float)
-    → x .main ≡ mainOf (x .pair)
-    → x .main ≡ 0
-    → x .«second_stereo» ≡ false
-    → baseAlone x left right ≡ outputBy x tcs left right work
-unfolding baseAlone outputBy secondBy
-alone-by-mix x tcs left right work m z n =
-    tab-same 5760 (λ k h.
-    let j = k % 1152 in
-    rw (n, unmixed (x .procedure) (getD tcs (j % 32) 0) (getD left j nan) (getD right j nan) (mainBy x work 0 j) (mainBy x work 1 j) (mainBy x work 2 j) (x .pair) (sym m ∙ z)))
-
-pub alone-written :
-    (s : McSettings) (b : Base) (work : List Float) {x : Mix} {second output : List Float}
-    → x ≡ mixOf s
-    → (eqb (x .main) 0 && not (x .«second_stereo»)) ≡ true
-    → second ≡ chosen (baseFor s 1) (b .scaledLeft) (b .scaledRight)
-    → output ≡ baseAlone x (b .scaledLeft) second
-    → output ≡ outputOf s b work
-alone-written s b work {x} {second} ex alone es e =
-    let a = and-true (eqb (x .main) 0) (not (x .«second_stereo»)) alone in
-    output-written s b work ex refl es
-    (e ∙ alone-by-mix x (tcsOf (s .status .«tc_allocation»)) (b .scaledLeft) second work (rw ex) (eqb-true (x .main) 0 (a .0)) (not-true (x .«second_stereo») (a .1)))
-  where
-    and-true : (p q : Bool) → (p && q) ≡ true → (p ≡ true) × (q ≡ true)
-    and-true true true e = (refl, refl)
-    and-true true false e = absurd (false≢true e)
-    and-true false q e = absurd (false≢true e)
-
-    not-true : (p : Bool) → not p ≡ true → p ≡ false
-    not-true true e = absurd (false≢true e)
-    not-true false e = refl
-
--- ---- the history
-
--- both base channels are of one length, and so is the one that is chosen
-pub line-long : (ch : ℕ) (left right base : List Float) → length left ≡ 1152 → length right ≡ 1152 → base ≡ chosen ch left right → length base ≡ 1152
-line-long ch left right base l r e = rw e (cond-all (λ (x : List Float). length x ≡ 1152) (eqb ch 0) l r)
-
--- a line of nine
-pub turn-line :
-    (left right : List Float) {d dst : List Float} {t : ℕ}
-    → ByTurn nan (λ (k : ℕ). k / 9) (historyBy left right) 576 d dst t
-    → t < 64
-    → ByTurn nan (λ (k : ℕ). k / 9) (historyBy left right) 576 d (strided 1 (lineBy (chosen (t / 32) left right) (t % 32)) (9 * t) 9 dst) (t + 1)
-turn-line left right {d} {dst} {t} p h =
-    turn-block p (length-strided 1 v (9 * t) dst 9) here
-    (λ k n. strided-other 1 v (9 * t) dst nan 9 k (λ i s w. n (omega arith) (omega arith)))
-  where
-    v : ℕ → Float
-    v = lineBy (chosen (t / 32) left right) (t % 32)
-
-    here : (k : ℕ) → k < 576 → k / 9 ≡ t → getD (strided 1 v (9 * t) 9 dst) k nan ≡ historyBy left right k
-    here k l s =
-        let w : 9 * t + 1 * (k % 9) ≡ k = omega arith in
-        let q : k % 9 < 9 = omega arith in
-        let c : t / 32 ≡ k / 288 = omega arith in
-        let b : t % 32 ≡ k % 288 / 9 = omega arith in
-        ap (λ (i : ℕ). getD (strided 1 v (9 * t) 9 dst) i nan) (sym w)
-        ∙ (getD-strided 1 v (9 * t) dst nan 9 (k % 9) (omega arith) q (omega (arith, p .room, p .long)) ∙ rw (c, b))
-
-pub lines-end :
-    (left right d dst : List Float) (t : ℕ)
-    → ByTurn nan (λ (k : ℕ). k / 9) (historyBy left right) 576 d dst t
-    → 64 ≤ t
-    → length d ≡ 576
-    → dst ≡ tab (historyBy left right) 576
-lines-end left right d dst t p h e = turn-ends p (λ k l. omega arith) ∙ all-filled (historyBy left right) 576 d e
-
-history-by : (s : McSettings) (b : Base) → tab (historyBy (b .scaledLeft) (chosen (baseFor s 1) (b .scaledLeft) (b .scaledRight))) 576 ≡ historyOf s b
-unfolding historyOf historyAt
-history-by s b = tab-same 576 (λ i h. rw (chosen-base s (i / 288) (b .scaledLeft) (b .scaledRight) (omega arith)))
-
--- the history
-pub history-kept :
-    (s : McSettings) (b : Base) {second history : List Float}
-    → second ≡ chosen (baseFor s 1) (b .scaledLeft) (b .scaledRight)
-    → history ≡ tab (historyBy (b .scaledLeft) second) 576
-    → history ≡ historyOf s b
-history-kept s b es e = rw es at e ∙ history-by s b

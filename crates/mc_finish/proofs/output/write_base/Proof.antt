@@ -5,7 +5,8 @@ use lib.Ieee.{nan}
 use Rattle.fill.specs.TabLaws.{all-filled}
 use Rattle.fill.specs.ByTurn.{ByTurn, turn-starts, turn-ends}
 use Rattle.mc_finish.specs.Code.OutputByMix.{baseAloneAt, baseAlone}
-use Rattle.mc_finish.specs.Laws.OutputByMix.{turn-across, base-value}
+use Rattle.mc_finish.specs.Laws.OutputByMix.{turn-across}
+use Rattle.mc_finish.specs.Laws.BaseAlone.{base-value}
 use native.Mathlib.Omega.{arith}
 use Rattle.mc_finish.proofs.output.write_base.Statement.{statement}
 use Rattle.mc_finish.proofs.output.write_base.Tie as tie

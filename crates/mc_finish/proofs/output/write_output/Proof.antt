@@ -7,7 +7,8 @@ use Rattle.mc_finish.specs.Laws.Chosen.{chosen-long}
 use Rattle.mc_config.specs.ConfigLaws.{layout-length}
 use Rattle.mc_unpack.specs.Places.{config}
 use Rattle.mc_finish.specs.Laws.LayOut.{mixed-all, laid-out}
-use Rattle.mc_finish.specs.Laws.OutputByMix.{second-fits, output-written, alone-written}
+use Rattle.mc_finish.specs.Laws.OutputByMix.{second-fits, output-written}
+use Rattle.mc_finish.specs.Laws.BaseAlone.{alone-written}
 use borrow.Author.Needs.{needs}
 use Rattle.mc_finish.proofs.output.write_output.Statement.{statement}
 use Rattle.mc_finish.proofs.output.write_output.Tie as tie
