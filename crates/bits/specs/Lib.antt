@@ -7,11 +7,6 @@ pub mod Table
 pub mod TableFill
 pub mod Theorems
 pub mod Answer
-pub mod Cursor
-pub mod CursorLaws
-pub mod Three
-pub mod ThreeLaws
-pub mod Ran
 pub mod Yields
 pub mod Width
 pub mod Entries

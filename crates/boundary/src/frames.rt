@@ -2,12 +2,12 @@
 use crate::heads::crossed_head;
 use crate::heads::longest_head;
 use crate::heads::plain_head;
-use crate::loan::Loan;
-use crate::loan::first_steps;
-use crate::loan::payload_from;
-use crate::loan::payload_of_ones;
-use crate::string::Bits;
-use crate::string::bytes;
+use boundary_run::Bits;
+use boundary_run::Loan;
+use boundary_run::bytes;
+use boundary_run::first_steps;
+use boundary_run::payload_from;
+use boundary_run::payload_of_ones;
 
 // 3/2, 3/1 and 2/2 with nothing transmitted; the base begins with this value.
 pub fn three_two(left: f64) -> Loan {

@@ -1,5 +1,5 @@
 // Head strings, field by field: mc_header(), mc_crc_check, mc_composite_status_info().
-use crate::string::Bits;
+use boundary_run::Bits;
 
 // mc_header() from `centre` on.
 fn header(start: Bits, centre: u32, surround: u32, lfe: u32, layer3: u32) -> Bits {

@@ -10,20 +10,20 @@ use crate::frames::scalefactor;
 use crate::frames::three_one;
 use crate::frames::three_two;
 use crate::frames::two_two;
-use crate::loan::Loan;
-use crate::loan::ramp;
-use crate::look::holds_until;
-use crate::look::second_is_first;
-use crate::look::third_is_silent;
 use crate::print::say;
 use crate::print::say_found;
 use crate::print::say_number;
-use crate::run::run;
-use mc_frame::McDecodeState;
+use boundary_look::holds_until;
+use boundary_look::second_is_first;
+use boundary_look::third_is_silent;
+use boundary_run::Loan;
+use boundary_run::ramp;
+use boundary_run::run_frame;
+use mc_state::McDecodeState;
 
 // A frame's line, and the state after it.
 fn line(name: &[u8], loan: Loan, state: McDecodeState) -> McDecodeState {
-    let found = run(loan, state);
+    let found = run_frame(loan, state);
     say(name);
     say_found(loan, state, found);
     say(b"\n");
@@ -51,7 +51,7 @@ pub fn layout_lines() {
 fn phantom_line() {
     let loan = phantom(12);
     let state = McDecodeState::new();
-    let found = run(loan, state);
+    let found = run_frame(loan, state);
     let output = found.output;
     let base = ramp(loan.left);
     say(b"mono base, phantom centre, second stereo");
@@ -71,7 +71,7 @@ fn phantom_line() {
 fn surround_line() {
     let loan = mono_surround();
     let state = McDecodeState::new();
-    let found = run(loan, state);
+    let found = run_frame(loan, state);
     let output = found.output;
     say(b"mono base, stereo surround");
     say_found(loan, state, found);

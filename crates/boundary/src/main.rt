@@ -3,11 +3,7 @@
 mod frames;
 mod heads;
 mod lines;
-mod loan;
-mod look;
 mod print;
-mod run;
-mod string;
 
 use lines::layout_lines;
 use lines::mono_lines;

@@ -1,15 +1,15 @@
 // Writes lines.
 ghost use mathlib.Core.Path.{_≡_};
-ghost use Rattle.boundary.specs.Run.{storedBy};
-use crate::loan::Loan;
-use crate::loan::ramp;
-use crate::look::is_stored;
-use crate::look::same_values;
-use crate::run::Found;
-use crate::run::Told;
-use crate::run::in_numbers;
+ghost use Rattle.boundary_run.specs.Run.{storedBy};
+use boundary_look::is_stored;
+use boundary_look::same_values;
+use boundary_run::Found;
+use boundary_run::Loan;
+use boundary_run::Told;
+use boundary_run::in_numbers;
+use boundary_run::ramp;
 use libc::STDOUT_FILENO;
-use mc_frame::McDecodeState;
+use mc_state::McDecodeState;
 
 pub fn say(text: &[u8]) {
     io::write_all(STDOUT_FILENO, text);

@@ -14,7 +14,7 @@ use mir.Val.{Fits}
 use Rattle.encoding.specs.Encoding.{lowestFirst, numberAt}
 use Rattle.fill.specs.Tab.{tab}
 use Rattle.frame_file.specs.declared.numbers.Numbers.{Numbers}
-use Rattle.frame_file.specs.Text.{ascii}
+use Rattle.frame_text.specs.Text.{ascii}
 use Rattle.frame_file.specs.File.{openingFault, faultOf}
 
 -- ---- numbers

@@ -1,8 +1,6 @@
 // Frame files (docs/FRAME_FILE.md): the numbers, step counts and values in their bytes, and what is said of a frame in words and numbers.
 
 mod numbers;
-mod summary;
-mod text;
 
 pub use numbers::BASE_CHANNELS;
 pub use numbers::EMPTY;
@@ -21,10 +19,3 @@ pub use numbers::numbers_of;
 pub use numbers::opening_fault;
 pub use numbers::u8_at;
 pub use numbers::u32_at;
-pub use summary::Summary;
-pub use summary::millionths_of;
-pub use summary::six_digits;
-pub use summary::summary_of;
-pub use text::Text;
-pub use text::name_of;
-pub use text::words_of;

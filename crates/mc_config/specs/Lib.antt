@@ -1,14 +1,8 @@
 pub mod Config
 pub mod Groups
-pub mod Crosstalk
-pub mod Predictors
-pub mod Roles
 pub mod Records
 pub mod TableLaws
 pub mod CaseLaws
 pub mod ConfigLaws
 pub mod GroupsLaws
-pub mod CrosstalkLaws
-pub mod PredictorsLaws
 pub mod RecordsLaws
-pub mod RolesLaws

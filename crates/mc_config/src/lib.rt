@@ -1,16 +1,9 @@
 // What a header of the multichannel extension decides: channels and layout, subband groups, crosstalk, predictors and roles (ISO/IEC 13818-3, 2.5.2.13 and 2.5.2.15).
 
 mod config;
-mod crosstalk;
 mod groups;
 mod layout;
-mod predictors;
-mod roles;
 
-pub use crosstalk::FROM_BASE;
-pub use crosstalk::Sources;
-pub use crosstalk::TRANSMITTED;
-pub use crosstalk::dyn_cross_sources;
 pub use groups::sbgr_of_subband;
 pub use layout::CENTRE;
 pub use layout::LEFT;
@@ -21,13 +14,6 @@ pub use layout::RIGHT;
 pub use layout::RIGHT_SURROUND;
 pub use layout::SECOND_LEFT;
 pub use layout::SECOND_RIGHT;
-pub use predictors::Channels;
-pub use predictors::npred_for;
-pub use predictors::predictable_channels;
-pub use roles::Roles;
-pub use roles::base_of;
-pub use roles::fallback_base_channel;
-pub use roles::tc_roles;
 
 // The fields of mc_header() as read: centre code 2, which the standard leaves undefined, is kept.
 pub struct McHeader {

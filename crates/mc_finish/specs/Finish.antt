@@ -6,10 +6,10 @@ use Prim.Native.Nat.{ℕ, _≤_, _<_}
 use lib.Dec.{eqb}
 use lib.Ieee.{Float}
 use lib.ListN.{length, getD}
-use Rattle.mc_unpack.specs.declared.McSettings.{McSettings}
-use Rattle.mc_unpack.specs.Places.{stepsOf, sourcesOf, basesOf}
-use Rattle.mc_unpack.specs.Record.{Record}
-use Rattle.mc_finish.specs.Scale.{Base}
+use Rattle.mc_payload.specs.declared.McSettings.{McSettings}
+use Rattle.mc_payload.specs.Places.{stepsOf, sourcesOf, basesOf}
+use Rattle.mc_payload.specs.Record.{Record}
+use Rattle.mc_scale.specs.Scale.{Base}
 
 -- the base's four lists
 abbrev pub baseFrom : List Float → List Float → List Float → List Float → Base

@@ -9,12 +9,12 @@ use Rattle.floats.specs.Binary64.{zero64}
 use Rattle.fill.specs.Tab.{tab}
 use Rattle.mc_config.specs.Config.{mainOf, layoutOf}
 use Rattle.mc_config.specs.Groups.{sbgrOf}
-use Rattle.mc_unpack.specs.declared.McSettings.{McSettings}
-use Rattle.mc_unpack.specs.Places.{config, pair, msblimit}
-use Rattle.mc_unpack.specs.Record.{Record}
-use Rattle.mc_finish.specs.Scale.{Base, chosen}
-use Rattle.mc_finish.specs.Predict.{baseFor, workAt}
-use Rattle.mc_finish.specs.Dematrix.{dematrixed}
+use Rattle.mc_payload.specs.declared.McSettings.{McSettings}
+use Rattle.mc_payload.specs.Places.{config, pair, msblimit}
+use Rattle.mc_payload.specs.Record.{Record}
+use Rattle.mc_scale.specs.Scale.{Base, chosen}
+use Rattle.mc_predict.specs.Predict.{baseFor, workAt}
+use Rattle.mc_dematrix.specs.Dematrix.{dematrixed}
 
 -- channel m, slot and subband at (36 m + slot) 32 + sb
 unfoldable pub workOf : McSettings → Record → Base → List Float → List Float

@@ -3,15 +3,11 @@ ghost use mathlib.Core.Path.{_≡_};
 ghost use lib.ListN.{length};
 ghost use Rattle.mc_finish.specs.Output.{workOf, outputOf};
 ghost use Rattle.mc_finish.specs.Finish.{baseFrom, recordFrom, Tables, BaseFits, RecordFits};
-use mc_unpack::McSettings;
+use mc_payload::McSettings;
 
-mod dematrix;
 mod output;
-mod predict;
-mod scale;
 
 pub use output::history;
-pub use scale::chosen;
 
 // Fills work and output from the record, the base and the history, by the tables of the places.
 pub fn finish<'a, 'b>(
@@ -38,7 +34,7 @@ pub fn finish<'a, 'b>(
     ensures { λ _. ⌜ now (work .exit) ≡ workOf s (recordFrom (now (raw .entry)) (now (scalefactor .entry)) delays coefs) (baseFrom (now («raw_left» .entry)) (now («raw_right» .entry)) (now («scaled_left» .entry)) (now («scaled_right» .entry))) (now (history .entry)) ⌝ }
     ensures { λ _. ⌜ now (output .exit) ≡ outputOf s (baseFrom (now («raw_left» .entry)) (now («raw_right» .entry)) (now («scaled_left» .entry)) (now («scaled_right» .entry))) (now (work .exit)) ⌝ }
 {
-    scale::scale(
+    mc_scale::scale(
         steps,
         source,
         base,
@@ -48,6 +44,6 @@ pub fn finish<'a, 'b>(
         raw_right,
         work,
     );
-    predict::predict(s, delays, coefs, scaled_left, scaled_right, history, work);
+    mc_predict::predict(s, delays, coefs, scaled_left, scaled_right, history, work);
     output::write_output(s, scaled_left, scaled_right, work, output);
 }

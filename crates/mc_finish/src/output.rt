@@ -5,17 +5,17 @@ ghost use Prim.Native.Nat.{ℕ, _+_, _*_, _<_, _≤_};
 ghost use lib.Dec.{eqb};
 ghost use lib.Ieee.{nan};
 ghost use lib.ListN.{length, getD};
-ghost use Rattle.mc_unpack.specs.Places.{msblimit};
-ghost use Rattle.mc_finish.specs.Code.Strided.{strided, across};
-ghost use Rattle.mc_finish.specs.Scale.{scaledBase};
+ghost use Rattle.mc_payload.specs.Places.{msblimit};
+ghost use Rattle.mc_scale.specs.Code.Strided.{strided, across};
+ghost use Rattle.mc_scale.specs.Scale.{scaledBase};
 ghost use Rattle.mc_finish.specs.Output.{outputOf, historyOf};
 ghost use Rattle.mc_finish.specs.Code.OutputByMix.{mixOf, tcsOf, mainBy, mixedBy, SecondFits, channelBy, mixedOf, withSecond, beyond, baseAlone, lineBy};
-use crate::dematrix::dematrix;
-use crate::scale::chosen;
-use crate::scale::second_base;
 use mc_config::McConfig;
 use mc_config::sbgr_of_subband;
-use mc_unpack::McSettings;
+use mc_dematrix::dematrix;
+use mc_payload::McSettings;
+use mc_scale::chosen;
+use mc_scale::second_base;
 
 // What the output goes by in every slot and subband.
 struct Mix {

@@ -1,11 +1,11 @@
 // The frame call on a state that is lent: the state is updated in place.
 ghost use mathlib.Core.Path.{_≡_};
 ghost use Rattle.mc_finish.specs.Finish.{baseFrom};
-ghost use Rattle.mc_frame.specs.Answer.{lentOf, buffersFrom, afterBy};
-ghost use Rattle.mc_frame.specs.Frame.{frameOf};
-use crate::McAnswer;
-use crate::McDecodeState;
-use crate::frame::frame;
+ghost use Rattle.mc_state.specs.Answer.{lentOf, buffersFrom, afterBy};
+ghost use Rattle.mc_state.specs.Frame.{frameOf};
+use mc_decode::frame_by_value;
+use mc_state::McAnswer;
+use mc_state::McDecodeState;
 
 // One frame, as `frame`; after a refusal the state and all buffers are as they were, but refusal 5 has stored the history.
 pub fn decode_mc_frame<'s, 'h, 'p, 'a, 'b, 'n, 'r, 'w, 'o, 'l>(
@@ -30,7 +30,7 @@ pub fn decode_mc_frame<'s, 'h, 'p, 'a, 'b, 'n, 'r, 'w, 'o, 'l>(
 ) -> McAnswer
     ensures { λ r. ⌜ afterBy r (now (state .exit)) (buffersFrom (now (raw .exit)) (now (work .exit)) (now (output .exit)) (now (lfe .exit))) ≡ frameOf (lentOf (now (head .entry)) «head_bits» (now (payload .entry)) «payload_bits» rate «base_channels» (baseFrom (now («raw_left» .entry)) (now («raw_right» .entry)) (now («scaled_left» .entry)) (now («scaled_right» .entry))) (now («base_nb_steps» .entry)) «lfe_allocation» (now («nb_steps» .entry))) (buffersFrom (now (raw .entry)) (now (work .entry)) (now (output .entry)) (now (lfe .entry))) (now (state .entry)) ⌝ }
 {
-    let t = frame(
+    let t = frame_by_value(
         *state,
         head,
         head_bits,

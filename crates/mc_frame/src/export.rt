@@ -1,11 +1,11 @@
 // The functions for C; include/koftabasin.h declares them.
 ghost use mathlib.Core.Path.{_≡_};
 ghost use Rattle.mc_finish.specs.Finish.{baseFrom};
-ghost use Rattle.mc_frame.specs.Answer.{lentOf, buffersFrom, outcomeOf, packed, packedBy, packedOf};
-ghost use Rattle.mc_frame.specs.Frame.{fresh, frameOf};
-use crate::McAnswer;
-use crate::McDecodeState;
-use crate::frame::frame;
+ghost use Rattle.mc_state.specs.Answer.{lentOf, buffersFrom, outcomeOf, packed, packedBy, packedOf};
+ghost use Rattle.mc_state.specs.Frame.{fresh, frameOf};
+use mc_decode::frame_by_value;
+use mc_state::McAnswer;
+use mc_state::McDecodeState;
 
 // The answer as one number.
 fn pack(answer: McAnswer) -> u64
@@ -52,7 +52,7 @@ fn packed_frame<'h, 'p, 'a, 'b, 'n, 'r, 'w, 'o, 'l>(
 ) -> PackedFrame
     ensures { λ r. ⌜ packedBy (r .answer) (r .state) (buffersFrom (now (raw .exit)) (now (work .exit)) (now (output .exit)) (now (lfe .exit))) ≡ packedOf (frameOf (lentOf (now (head .entry)) «head_bits» (now (payload .entry)) «payload_bits» rate «base_channels» (baseFrom (now («raw_left» .entry)) (now («raw_right» .entry)) (now («scaled_left» .entry)) (now («scaled_right» .entry))) (now («base_nb_steps» .entry)) «lfe_allocation» (now («nb_steps» .entry))) (buffersFrom (now (raw .entry)) (now (work .entry)) (now (output .entry)) (now (lfe .entry))) state) ⌝ }
 {
-    let t = frame(
+    let t = frame_by_value(
         state,
         head,
         head_bits,

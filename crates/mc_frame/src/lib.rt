@@ -1,40 +1,8 @@
 // One frame: the whole extension, from header bits to dematrixed subbands.
-use mc_error::McError;
 
 mod call;
-mod checks;
 mod export;
-mod frame;
-mod state;
-mod write;
 
 pub use call::decode_mc_frame;
 pub use export::mc_decode_frame;
 pub use export::mc_fresh_state;
-pub use frame::frame as frame_by_value;
-
-// What a decoder keeps from frame to frame.
-#[repr(C)]
-pub struct McDecodeState {
-    // base channel, subband and place at (32 * channel + subband) * 9 + place, oldest first
-    pub pred_hist: [f64; 576],
-    // output channels of the frames so far, 0 before the first
-    pub layout_len: u8,
-    // accepted frames; stays at its top
-    pub accepted: u32,
-}
-
-// The bits that head and payload use, or why the frame is refused.
-pub enum McAnswer {
-    Accepted {
-        head_bits: usize,
-        payload_bits: usize,
-    },
-    Refused(McError),
-}
-
-// The answer, and the state after it.
-pub struct Framed {
-    pub answer: McAnswer,
-    pub state: McDecodeState,
-}

@@ -8,10 +8,10 @@ use native.Mathlib.Omega.{arith}
 use borrow.Author.Tests.{not-true, not-false, lt-ltb, le-ltb}
 use lib.Dec.{ltb}
 use Rattle.bits.specs.Syntax.{Refusal, plain, Syntax, done, refuse, Outcome, refused, run, bind, both}
-use Rattle.bits.specs.Cursor.{step, runFrom}
-use Rattle.bits.specs.CursorLaws.{start, ended, ended-refused, ended-refuse, advance, bind-as, goes-on-from}
-use Rattle.bits.specs.Ran.{Ran}
-use Rattle.bits.specs.declared.Cursor.{Cursor}
+use Rattle.cursor.specs.Cursor.{step, runFrom}
+use Rattle.cursor.specs.CursorLaws.{start, ended, ended-refused, ended-refuse, advance, bind-as, goes-on-from}
+use Rattle.cursor.specs.Ran.{Ran}
+use Rattle.cursor.specs.declared.Cursor.{Cursor}
 use Rattle.mc_config.specs.Config.{configOf, pairOf}
 use Rattle.mc_config.specs.ConfigLaws.{tc-bits-config, cross-bits-config}
 use Rattle.mc_config.specs.declared.McConfig.{McConfig}
@@ -20,13 +20,13 @@ use Rattle.mc_error.specs.Error.{refusalOf}
 use Rattle.mc_error.specs.declared.McError.{McError}
 use Rattle.mc_error.specs.declared.McError.the-variants.{UnexpectedEnd, ForbiddenDynCrossMode, InvalidArgument}
 use Rattle.mc_head.specs.Answer.{valuesOf, outcomeOf, noHead, valuesAfter}
-use Rattle.mc_head.specs.Head.{mcHeader, mcErrorCheck, modeAt, firstForbidden, checkModes, mcCompositeStatusInfo, head}
-use Rattle.mc_head.specs.HeadYields.{head-refused}
+use Rattle.mc_fields.specs.Head.{mcHeader, mcErrorCheck, modeAt, firstForbidden, checkModes, mcCompositeStatusInfo, head}
+use Rattle.mc_fields.specs.HeadYields.{head-refused}
 use Rattle.mc_head.specs.Lent.{stringFits, baseFits, headOf}
 use Rattle.mc_head.specs.LentLaws.{lent-fits}
 use Rattle.mc_head.specs.declared.HeadAnswer.the-variants.{Accepted, Refused}
 use Rattle.mc_head.specs.declared.McHead.{McHead}
-use Rattle.mc_head.specs.declared.McStatus.{McStatus}
+use Rattle.mc_fields.specs.declared.McStatus.{McStatus}
 
 -- a part that goes on as the test of the codes, with a value made of its own
 check-as : {A B : Type 0} (b : List ℕ) (l : ℕ) (c c′ : Cursor) (m : Syntax A) (pair : ℕ) (cross : List ℕ) (a : A) (f : A → B)

@@ -1,4 +1,1 @@
-pub mod Fields
-pub mod HeaderWalk
-pub mod StatusWalk
 pub mod HeadWalk

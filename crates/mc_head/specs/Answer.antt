@@ -8,7 +8,7 @@ use Rattle.mc_error.specs.Error.{refusalOf}
 use Rattle.mc_head.specs.declared.HeadAnswer.{HeadAnswer}
 use Rattle.mc_head.specs.declared.HeadAnswer.the-variants.{Accepted, Refused}
 use Rattle.mc_head.specs.declared.McHead.{McHead}
-use Rattle.mc_head.specs.declared.McStatus.{McStatus}
+use Rattle.mc_fields.specs.declared.McStatus.{McStatus}
 
 abbrev pub valuesOf : McHead → McHeader × (ℕ × McStatus)
 valuesOf r = (r .header, (r .«check_word», r .status))

@@ -8,7 +8,7 @@ use Rattle.mc_error.specs.declared.McError.{McError}
 use Rattle.mc_head.specs.Answer.{valuesOf, outcomeOf}
 use Rattle.mc_head.specs.declared.HeadAnswer.the-variants.{Accepted, Refused}
 use Rattle.mc_head.specs.declared.McHead.{McHead}
-use Rattle.mc_head.specs.declared.McStatus.{McStatus}
+use Rattle.mc_fields.specs.declared.McStatus.{McStatus}
 
 module _ (r : McHead) (o : Outcome (McHeader × (ℕ × McStatus))) (e : outcomeOf r ≡ o) where
   pub answer-accepted : (used : ℕ) → r .answer ≡ Accepted used → o ≡ accepted (valuesOf r) used

@@ -6,8 +6,8 @@ use lib.Dec.{eqb, leb}
 use lib.ListN.{length}
 use Rattle.bits.specs.Syntax.{Outcome, plain, refused, run}
 use Rattle.mc_config.specs.declared.McHeader.{McHeader}
-use Rattle.mc_head.specs.declared.McStatus.{McStatus}
-use Rattle.mc_head.specs.Head.{head}
+use Rattle.mc_fields.specs.declared.McStatus.{McStatus}
+use Rattle.mc_fields.specs.Head.{head}
 
 -- a string of at most 8192 bytes, and no more bits than they hold
 abbrev pub stringFits : List ℕ → ℕ → Bool

@@ -7,10 +7,10 @@ use native.Mathlib.Omega.{arith}
 use Rattle.bits.specs.Syntax.{plain, accepted, refused, run}
 use Rattle.bits.specs.SyntaxLaws.{within}
 use Rattle.mc_config.specs.declared.McHeader.{McHeader}
-use Rattle.mc_head.specs.Head.{head}
-use Rattle.mc_head.specs.HeadWidth.{head-used}
+use Rattle.mc_fields.specs.Head.{head}
+use Rattle.mc_fields.specs.HeadWidth.{head-used}
 use Rattle.mc_head.specs.Lent.{stringFits, baseFits, headOf}
-use Rattle.mc_head.specs.declared.McStatus.{McStatus}
+use Rattle.mc_fields.specs.declared.McStatus.{McStatus}
 
 module _ (bytes : List ℕ) (bits baseChannels : ℕ) where
   pub lent-fits : stringFits bytes bits ≡ true → baseFits baseChannels ≡ true → headOf bytes bits baseChannels ≡ run (head baseChannels) bytes bits 0

@@ -1,12 +1,4 @@
-pub mod Head
 pub mod Lent
 pub mod Answer
-pub mod BitsIfLaws
-pub mod ForbiddenLaws
-pub mod StatusYields
-pub mod HeadYields
-pub mod HeadRecovers
-pub mod HeadWidth
-pub mod LongestHead
 pub mod LentLaws
 pub mod AnswerLaws

@@ -1,36 +1,19 @@
 // Reads a head string: mc_header(), the check word, and mc_composite_status_info() (ISO/IEC 13818-3, 2.5.1.13 to 2.5.1.15).
 ghost use mathlib.Core.Path.{_≡_};
-ghost use Rattle.bits.specs.Cursor.{runFrom};
+ghost use Rattle.cursor.specs.Cursor.{runFrom};
 ghost use Rattle.bits.specs.Syntax.{run};
 ghost use Rattle.mc_head.specs.Answer.{outcomeOf, valuesOf, noHead, valuesAfter};
-ghost use Rattle.mc_head.specs.Head.{checkModes, head};
+ghost use Rattle.mc_fields.specs.Head.{checkModes, head};
 ghost use Rattle.mc_head.specs.Lent.{stringFits, baseFits, headOf};
-use bits::Cursor;
-use bits::read;
-use header::read_mc_header;
+use cursor::Cursor;
+use cursor::read;
 use mc_config::McConfig;
 use mc_config::McHeader;
 use mc_error::McError;
-use status::first_forbidden;
-use status::read_status;
-
-mod header;
-mod status;
-
-pub use header::bits_if;
-
-// mc_composite_status_info() as read; what a field of no bits would hold is 0.
-pub struct McStatus {
-    pub tc_sbgr_select: bool,
-    pub dyn_cross_on: bool,
-    pub mc_prediction_on: bool,
-    pub tc_allocation: [u8; 12],
-    pub dyn_cross_lr: bool,
-    // by group: dyn_cross_mode, dyn_second_stereo
-    pub dyn_cross: [u8; 24],
-    // by group 0 to 7: mc_prediction, then predsi of each of six predictors
-    pub mc_prediction: [u8; 56],
-}
+use mc_fields::McStatus;
+use mc_fields::read_mc_header;
+use mc_status::first_forbidden;
+use mc_status::read_status;
 
 // The bits that the head uses, or why it is refused.
 pub enum HeadAnswer {

@@ -15,16 +15,16 @@ use Rattle.mc_error.specs.declared.McError.{McError}
 use Rattle.mc_unpack.specs.declared.entry.McPayload.{McPayload}
 use Rattle.mc_unpack.specs.declared.entry.Unpacked.{Unpacked}
 use Rattle.mc_unpack.specs.declared.entry.UnpackAnswer.the-variants.{Accepted, Refused}
-use Rattle.mc_unpack.specs.Places.{ownOf}
-use Rattle.mc_unpack.specs.Payload.{Codes}
-use Rattle.mc_unpack.specs.Outcome.{codesOf, outcomeOf}
+use Rattle.mc_payload.specs.Places.{ownOf}
+use Rattle.mc_payload.specs.Payload.{Codes}
+use Rattle.mc_codes.specs.Outcome.{codesOf, outcomeOf}
 use Rattle.mc_unpack.specs.RecordLaws.{raw-record, lfe-record}
-use Rattle.mc_unpack.specs.Unpack.{stepsFit, Loan, settingsOf, unpackOf}
+use Rattle.mc_payload.specs.Unpack.{stepsFit, Loan, settingsOf, unpackOf}
 use Rattle.mc_unpack.specs.Answer.{tablesOf, noTables, valuesOf, afterOf, roomFits, checkedOf, unpackCall}
 use Rattle.mc_unpack.specs.Settled.{settledOf, Decided, Numbered}
 use Rattle.mc_unpack.specs.SettledLaws.{own-table, unpack-numbered, settled-writable}
-use Rattle.mc_unpack.specs.Values.{rawFrom, lfeFrom, SamplesFit, LfeFits}
-use Rattle.mc_unpack.specs.Demand3.Accepted.{unpack-accepts, lfe-low}
+use Rattle.mc_values.specs.Values.{rawFrom, lfeFrom, SamplesFit, LfeFits}
+use Rattle.mc_payload.specs.Demand3.Accepted.{unpack-accepts, lfe-low}
 
 -- ---- numbers of refusals
 

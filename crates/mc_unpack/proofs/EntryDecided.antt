@@ -7,14 +7,14 @@ use native.Mathlib.Omega.{arith}
 use borrow.Author.Tests.{eq-eqb, ne-eqb, not-true, not-false}
 use Rattle.bits.specs.Syntax.{plain, refused}
 use Rattle.mc_head.specs.Lent.{stringFits}
-use Rattle.mc_unpack.specs.declared.McSettings.{McSettings}
+use Rattle.mc_payload.specs.declared.McSettings.{McSettings}
 use Rattle.mc_unpack.specs.declared.entry.McPayload.{McPayload}
-use Rattle.mc_unpack.specs.PlacesBy.{placesOf}
-use Rattle.mc_unpack.specs.Outcome.{outcomeOf}
-use Rattle.mc_unpack.specs.Unpack.{loanFits, Loan, settingsOf, unpackOf}
+use Rattle.mc_places.specs.PlacesBy.{placesOf}
+use Rattle.mc_codes.specs.Outcome.{outcomeOf}
+use Rattle.mc_payload.specs.Unpack.{loanFits, Loan, settingsOf, unpackOf}
 use Rattle.mc_unpack.specs.Answer.{checkedOf}
 use Rattle.mc_unpack.specs.Settled.{settledOf, Decided}
-use Rattle.mc_unpack.specs.Demand3.Accepted.{lfe-low}
+use Rattle.mc_payload.specs.Demand3.Accepted.{lfe-low}
 
 module _ (l : Loan) (bytes : List ℕ) (bits raw lfe : ℕ) (p : McPayload) where
   -- a wrong loan is refused by number

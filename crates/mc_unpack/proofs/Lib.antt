@@ -1,11 +1,2 @@
-pub mod ScfsiRead
-pub mod FactorsRead
-pub mod PredictorsRead
-pub mod GranulesRead
-pub mod ClassLaws
-pub mod PayloadRead
-pub mod PlacesBuilt
-pub mod SamplesWritten
-pub mod LoanTested
 pub mod EntryDecided
 pub mod EntryAnswer

@@ -7,19 +7,13 @@ use lib.Ieee.{Float}
 use lib.ListN.{length, replicate}
 use Rattle.bits.specs.Syntax.{Outcome, plain, accepted, refused}
 use Rattle.mc_error.specs.Error.{refusalOf}
-use Rattle.mc_config.specs.declared.McHeader.{McHeader}
-use Rattle.mc_head.specs.declared.McStatus.{McStatus}
-use Rattle.mc_unpack.specs.declared.McSettings.{McSettings}
+use Rattle.mc_payload.specs.declared.McSettings.{McSettings}
 use Rattle.mc_unpack.specs.declared.entry.Unpacked.{Unpacked}
 use Rattle.mc_unpack.specs.declared.entry.UnpackAnswer.{UnpackAnswer}
 use Rattle.mc_unpack.specs.declared.entry.UnpackAnswer.the-variants.{Accepted, Refused}
-use Rattle.mc_unpack.specs.Payload.{Codes}
-use Rattle.mc_unpack.specs.Record.{rawOf, lfeOf}
-use Rattle.mc_unpack.specs.Unpack.{Loan, settingsOf, unpackOf}
-
-abbrev pub loanBy : ℕ → ℕ → McHeader → McStatus → ℕ → List ℕ → List ℕ → Loan
-loanBy rate baseChannels header status lfe steps baseSteps =
-    record { rate = rate; baseChannels = baseChannels; header = header; status = status; lfe = lfe; steps = steps; baseSteps = baseSteps }
+use Rattle.mc_payload.specs.Payload.{Codes}
+use Rattle.mc_payload.specs.Record.{rawOf, lfeOf}
+use Rattle.mc_payload.specs.Unpack.{Loan, settingsOf, unpackOf}
 
 -- the tables of a record: scfsi, predictor codes, the LFE channel's scalefactor index, and scalefactor indices
 abbrev pub Tables : Type 0

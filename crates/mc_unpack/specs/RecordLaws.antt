@@ -17,14 +17,14 @@ use Rattle.bitalloc.specs.declared.QuantClass.{QuantClass}
 use Rattle.bitalloc.specs.Places.{class-steps, class-none}
 use Rattle.requant.specs.Requant
 use Rattle.requant.specs.Requant.{requantized, degrouped}
-use Rattle.mc_head.specs.Head.{bitsIf}
-use Rattle.mc_unpack.specs.declared.McSettings.{McSettings}
-use Rattle.mc_unpack.specs.Places.{ownAt, place, ownOf}
-use Rattle.mc_unpack.specs.PlacesLaws.{tab-same}
-use Rattle.mc_unpack.specs.Payload.{Codes}
-use Rattle.mc_unpack.specs.Record.{delaysOf, coefsOf, sampleCodeOf, rawAt, rawOf, lfeAt, lfeOf}
-use Rattle.mc_unpack.specs.Values.{delaysIn, delaysFrom, coefBy, coefsIn, coefsFrom, threeCodes, threeValues, firstAt, valuesAt, rawBy, rawIn, rawFrom, lfeBy, lfeFrom, SamplesFit, LfeFits}
-use Rattle.mc_unpack.specs.Demand3.Widths.{CodesFit}
+use Rattle.mc_fields.specs.Head.{bitsIf}
+use Rattle.mc_payload.specs.declared.McSettings.{McSettings}
+use Rattle.mc_payload.specs.Places.{ownAt, place, ownOf}
+use Rattle.mc_places.specs.PlacesLaws.{tab-same}
+use Rattle.mc_payload.specs.Payload.{Codes}
+use Rattle.mc_payload.specs.Record.{delaysOf, coefsOf, sampleCodeOf, rawAt, rawOf, lfeAt, lfeOf}
+use Rattle.mc_values.specs.Values.{delaysIn, delaysFrom, coefBy, coefsIn, coefsFrom, threeCodes, threeValues, firstAt, valuesAt, rawBy, rawIn, rawFrom, lfeBy, lfeFrom, SamplesFit, LfeFits}
+use Rattle.mc_payload.specs.Demand3.Widths.{CodesFit}
 
 -- ---- predictors and LFE samples
 

@@ -5,12 +5,12 @@ use mathlib.Core.List.{List}
 use mathlib.Core.Logic.{_⊎_}
 use Prim.Native.Nat.{ℕ}
 use Rattle.bits.specs.Syntax.{Outcome, plain, refused, run}
-use Rattle.mc_unpack.specs.declared.McSettings.{McSettings}
-use Rattle.mc_unpack.specs.Payload.{Codes}
+use Rattle.mc_payload.specs.declared.McSettings.{McSettings}
+use Rattle.mc_payload.specs.Payload.{Codes}
 use Rattle.mc_unpack.specs.declared.entry.McPayload.{McPayload}
-use Rattle.mc_unpack.specs.PlacesBy.{placesOf}
-use Rattle.mc_unpack.specs.Outcome.{outcomeOf}
-use Rattle.mc_unpack.specs.Unpack.{allocationsFit, payloadOf, Loan, settingsOf}
+use Rattle.mc_places.specs.PlacesBy.{placesOf}
+use Rattle.mc_codes.specs.Outcome.{outcomeOf}
+use Rattle.mc_payload.specs.Unpack.{allocationsFit, payloadOf, Loan, settingsOf}
 use Rattle.mc_unpack.specs.Answer.{checkedOf}
 
 unfoldable pub settledOf : McSettings → List ℕ → ℕ → Outcome Codes

@@ -11,20 +11,20 @@ use borrow.Author.Tests.{eqb-false, not-true, not-false}
 use Rattle.bits.specs.Syntax.{Refusal, plain, Outcome, accepted, refused, run}
 use Rattle.bits.specs.Yields.{accepted-yields, refused-yields}
 use Rattle.mc_head.specs.Lent.{stringFits}
-use Rattle.mc_unpack.specs.declared.McSettings.{McSettings}
-use Rattle.mc_unpack.specs.declared.payload.PayloadCodes.{PayloadCodes}
-use Rattle.mc_unpack.specs.declared.places.Places.{Places}
-use Rattle.mc_unpack.specs.Places.{ownAt, stepsOf, ownOf}
-use Rattle.mc_unpack.specs.PlacesBy.{placesOf}
-use Rattle.mc_unpack.specs.Payload.{Codes, payload}
-use Rattle.mc_unpack.specs.PayloadYields.{FactorsBelow, payload-yields}
-use Rattle.mc_unpack.specs.Outcome.{outcomeOf}
+use Rattle.mc_payload.specs.declared.McSettings.{McSettings}
+use Rattle.mc_codes.specs.declared.payload.PayloadCodes.{PayloadCodes}
+use Rattle.mc_places.specs.declared.places.Places.{Places}
+use Rattle.mc_payload.specs.Places.{ownAt, stepsOf, ownOf}
+use Rattle.mc_places.specs.PlacesBy.{placesOf}
+use Rattle.mc_payload.specs.Payload.{Codes, payload}
+use Rattle.mc_payload.specs.PayloadYields.{FactorsBelow, payload-yields}
+use Rattle.mc_codes.specs.Outcome.{outcomeOf}
 use Rattle.mc_unpack.specs.RecordLaws.{samples-fit, lfe-fits}
-use Rattle.mc_unpack.specs.Unpack.{stepsFit, loanFits, allocationsFit, payloadOf, Loan, settingsOf, unpackOf}
-use Rattle.mc_unpack.specs.Values.{SamplesFit, LfeFits}
+use Rattle.mc_payload.specs.Unpack.{stepsFit, loanFits, allocationsFit, payloadOf, Loan, settingsOf, unpackOf}
+use Rattle.mc_values.specs.Values.{SamplesFit, LfeFits}
 use Rattle.mc_unpack.specs.Settled.{settledOf, Numbered}
-use Rattle.mc_unpack.specs.Demand3.Accepted.{own-at, own-class}
-use Rattle.mc_unpack.specs.Demand3.Widths.{Fitting, codes-fit}
+use Rattle.mc_payload.specs.Demand3.Accepted.{own-at, own-class}
+use Rattle.mc_payload.specs.Demand3.Widths.{Fitting, codes-fit}
 
 module _ (s : McSettings) (p : Places) (e : p ≡ placesOf s) where
   pub own-table : p .own ≡ ownOf s

@@ -4,12 +4,12 @@ use Prim.Native.Nat.{ℕ}
 use lib.ListN.{replicate}
 use Rattle.bits.specs.Syntax.{Outcome, accepted, refused}
 use Rattle.floats.specs.Binary64.{zero64}
-use Rattle.mc_frame.specs.Answer.{buffersFrom}
-use Rattle.mc_frame.specs.Frame.{After, frameOf}
-use Rattle.mc_frame.specs.declared.McDecodeState.{McDecodeState}
+use Rattle.mc_state.specs.Answer.{buffersFrom}
+use Rattle.mc_state.specs.Frame.{After, frameOf}
+use Rattle.mc_state.specs.declared.McDecodeState.{McDecodeState}
 use Rattle.mcread.specs.declared.input.Step.{Step}
 use Rattle.frame_file.specs.declared.numbers.Numbers.{Numbers}
-use Rattle.mcread.specs.Lent.{lentIn}
+use Rattle.frame_body.specs.Lent.{lentIn}
 
 unfoldable pub afterFrame : Numbers → List ℕ → McDecodeState → After
 afterFrame n body state = frameOf (lentIn n body) (buffersFrom (replicate 3456 zero64) (replicate 3456 zero64) (replicate 5760 zero64) (replicate 12 zero64)) state

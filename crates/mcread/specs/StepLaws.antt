@@ -2,10 +2,10 @@
 use mathlib.Core.Path.{_≡_}
 use Prim.Native.Nat.{ℕ}
 use Rattle.mc_error.specs.declared.McError.{McError}
-use Rattle.mc_frame.specs.Answer.{afterOf}
-use Rattle.mc_frame.specs.Frame.{Buffers, After}
-use Rattle.mc_frame.specs.declared.Framed.{Framed}
-use Rattle.mc_frame.specs.declared.McAnswer.the-variants.{Accepted, Refused}
+use Rattle.mc_state.specs.Answer.{afterOf}
+use Rattle.mc_state.specs.Frame.{Buffers, After}
+use Rattle.mc_state.specs.declared.Framed.{Framed}
+use Rattle.mc_state.specs.declared.McAnswer.the-variants.{Accepted, Refused}
 use Rattle.mcread.specs.declared.input.Step.{Step}
 use Rattle.mcread.specs.Step.{stepOf}
 

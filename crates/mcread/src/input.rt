@@ -1,12 +1,12 @@
 // Reading standard input, frame after frame. No contract can say what is read.
 ghost use mathlib.Core.Path.{_≡_};
 ghost use Rattle.frame_file.specs.File.{faultOf};
-ghost use Rattle.mcread.specs.Lent.{Whole};
+ghost use Rattle.frame_body.specs.Lent.{Whole};
 ghost use Rattle.mcread.specs.Step.{afterFrame, stepOf};
-use crate::body::decode_body;
-use crate::body::layout_of;
-use crate::body::state_of;
 use crate::report;
+use frame_body::decode_body;
+use frame_body::layout_of;
+use frame_body::state_of;
 use frame_file::Numbers;
 use frame_file::body_bytes;
 use frame_file::fault_of;
@@ -15,8 +15,8 @@ use frame_file::opening_fault;
 use frame_file::u8_at;
 use frame_file::u32_at;
 use libc::STDIN_FILENO;
-use mc_frame::McAnswer;
-use mc_frame::McDecodeState;
+use mc_state::McAnswer;
+use mc_state::McDecodeState;
 
 // What became of a frame.
 const ACCEPTED: u32 = 0;

@@ -2,12 +2,12 @@
 ghost use Prim.Native.Nat.{_≤_};
 ghost use lib.ListN.{length};
 use frame_file::Numbers;
-use frame_file::Text;
-use frame_file::millionths_of;
-use frame_file::name_of;
-use frame_file::six_digits;
-use frame_file::summary_of;
-use frame_file::words_of;
+use frame_summary::millionths_of;
+use frame_summary::six_digits;
+use frame_summary::summary_of;
+use frame_text::Text;
+use frame_text::name_of;
+use frame_text::words_of;
 use libc::STDOUT_FILENO;
 use mc_config::Layout;
 use mc_error::McError;

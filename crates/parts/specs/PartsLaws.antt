@@ -14,8 +14,8 @@ use Rattle.mc_head.specs.Answer.{outcomeOf}
 use Rattle.mc_head.specs.Lent.{headOf}
 use Rattle.mc_head.specs.declared.HeadAnswer.the-variants.{Accepted, Refused}
 use Rattle.mc_head.specs.declared.McHead.{McHead}
-use Rattle.mc_head.specs.declared.McStatus.{McStatus}
-use Rattle.parts.specs.Parts.{Head, flag, firstBytes, byteOf, headByte, headFor, packedRefusal, packedHead, bytesAfter}
+use Rattle.mc_fields.specs.declared.McStatus.{McStatus}
+use Rattle.part_tables.specs.Parts.{Head, flag, firstBytes, byteOf, headByte, headFor, packedRefusal, packedHead, bytesAfter}
 
 flag-byte : (b : Bool) → boolByte b ≡ flag b
 flag-byte true = refl

@@ -3,15 +3,14 @@ ghost use mathlib.Core.Path.{_≡_};
 ghost use Prim.Native.Nat.{_<_};
 ghost use lib.ListN.{length};
 ghost use Rattle.fill.specs.Tab.{tab};
-ghost use Rattle.mc_error.specs.Error.{refusalOf};
 ghost use Rattle.mc_head.specs.Answer.{outcomeOf};
-ghost use Rattle.parts.specs.Parts.{firstBytes, byteOf, headByte, headFor, packedRefusal, packedHead, bytesAfter};
+ghost use Rattle.part_tables.specs.Parts.{firstBytes, byteOf, headByte, headFor, packedHead, bytesAfter};
 use mc_config::McHeader;
-use mc_error::McError;
+use mc_fields::McStatus;
 use mc_head::HeadAnswer;
 use mc_head::McHead;
-use mc_head::McStatus;
 use mc_head::read_head;
+use part_tables::pack_refusal;
 
 mod unpack;
 
@@ -99,13 +98,6 @@ fn write_head(head: McHead, out: &mut [u8])
         }
         HeadAnswer::Refused(_) => {}
     }
-}
-
-// A refusal as one number.
-fn pack_refusal(e: McError) -> u64
-    ensures { λ r. ⌜ r ≡ packedRefusal (refusalOf e) ⌝ }
-{
-    e.number() as u64 + (e.group() % 16777216) as u64 * 256 + e.code() as u64 * 4294967296
 }
 
 // The answer as one number.

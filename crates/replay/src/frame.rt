@@ -3,19 +3,19 @@ ghost use mathlib.Core.Path.{_≡_};
 ghost use Prim.Native.Nat.{_+_};
 ghost use lib.ListN.{length};
 ghost use Rattle.mc_finish.specs.Finish.{baseFrom};
-ghost use Rattle.mc_frame.specs.Answer.{buffersFrom, afterOf};
-ghost use Rattle.mc_frame.specs.Frame.{frameOf};
-ghost use Rattle.replay.specs.Opening.{secondLent, lentValues, stepsFrom, startOf, lentWith, lentLong, lentIn};
-use crate::opening::byte_at;
-use crate::opening::fill_steps;
-use crate::opening::lend_values;
-use crate::opening::number32_at;
-use crate::opening::second_lent;
-use crate::opening::start;
+ghost use Rattle.mc_state.specs.Answer.{buffersFrom, afterOf};
+ghost use Rattle.mc_state.specs.Frame.{frameOf};
+ghost use Rattle.replay_list.specs.Opening.{secondLent, lentValues, stepsFrom, startOf, lentWith, lentLong, lentIn};
 use encoding::number_at;
-use mc_frame::Framed;
-use mc_frame::McDecodeState;
-use mc_frame::frame_by_value;
+use mc_decode::frame_by_value;
+use mc_state::Framed;
+use mc_state::McDecodeState;
+use replay_list::byte_at;
+use replay_list::fill_steps;
+use replay_list::lend_values;
+use replay_list::number32_at;
+use replay_list::second_lent;
+use replay_list::start;
 
 // Rebuilds the base values and the step counts in the slices that are lent for them.
 fn rebuild<'a, 'b, 'c, 'd, 'e, 'f>(

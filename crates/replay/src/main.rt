@@ -4,16 +4,12 @@ ghost use lib.Dec.{eqb};
 ghost use Rattle.encoding.specs.Encoding.{numberAt};
 
 mod frame;
-mod opening;
-mod outcome;
 mod report;
-mod tally;
-mod values;
 
 use encoding::number_at;
-use mc_frame::McAnswer;
-use mc_frame::McDecodeState;
-use tally::Tally;
+use mc_state::McAnswer;
+use mc_state::McDecodeState;
+use replay_list::Tally;
 
 // The letters MCREPLAY as a number, lowest byte first.
 const NAME: u64 = 0x59414C504552434D;
@@ -66,12 +62,12 @@ fn compared<'a>(
     output: &'a [f64],
     lfe: &'a [f64],
 ) -> Tally {
-    let found = outcome::reached(answer, state, raw, work, output, lfe);
-    let d = outcome::compare(found, outcome::listed(opening));
+    let found = replay_list::reached(answer, state, raw, work, output, lfe);
+    let d = replay_list::compare(found, replay_list::listed(opening));
     report::differing(tally.frames, d);
     let differs = d.answer | d.raw | d.work | d.output | d.lfe | d.state;
-    let values = outcome::hashed_values(raw, work, output, lfe);
-    tally::tallied(tally, found.answer, values, differs)
+    let values = replay_list::hashed_values(raw, work, output, lfe);
+    replay_list::tallied(tally, found.answer, values, differs)
 }
 
 // Runs a frame that was read, and compares.
@@ -86,8 +82,8 @@ fn run_frame(
     output: &mut [f64],
     lfe: &mut [f64],
 ) -> Turn {
-    let head_bytes = opening::lent_bytes(opening, 0, head.len());
-    let payload_bytes = opening::lent_bytes(opening, 2, payload.len());
+    let head_bytes = replay_list::lent_bytes(opening, 0, head.len());
+    let payload_bytes = replay_list::lent_bytes(opening, 2, payload.len());
     let t = frame::replay_frame(
         state,
         opening,

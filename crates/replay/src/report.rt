@@ -1,6 +1,6 @@
 // What the program prints.
-use crate::outcome::Differences;
-use crate::tally::Tally;
+use replay_list::Differences;
+use replay_list::Tally;
 
 const OUT: i32 = 1;
 

@@ -5,5 +5,3 @@ pub mod AsRaw
 pub mod Fits
 pub mod Digits
 pub mod Constants
-pub mod OneToOne
-pub mod Bounds

@@ -10,11 +10,11 @@ use Rattle.fill.specs.Tab.{tab}
 use Rattle.floats.specs.Binary64.{zero64}
 use Rattle.mc_config.specs.Config.{mainOf}
 use Rattle.mc_config.specs.Groups.{sbgrOf}
-use Rattle.mc_unpack.specs.declared.McSettings.{McSettings}
-use Rattle.mc_unpack.specs.Places.{config, pair, msblimit}
+use Rattle.mc_payload.specs.declared.McSettings.{McSettings}
+use Rattle.mc_payload.specs.Places.{config, pair, msblimit}
 use Rattle.mc_finish.specs.declared.output.Mix.{Mix}
-use Rattle.mc_finish.specs.Scale.{chosen}
-use Rattle.mc_finish.specs.Dematrix.{dematrixed}
+use Rattle.mc_scale.specs.Scale.{chosen}
+use Rattle.mc_dematrix.specs.Dematrix.{dematrixed}
 use Rattle.mc_finish.specs.Output.{channels}
 
 abbrev pub mixOf : McSettings → Mix

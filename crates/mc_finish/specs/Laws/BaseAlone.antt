@@ -11,15 +11,15 @@ use borrow.Author.Tests.{eqb-true}
 use Rattle.floats.specs.Binary64.{zero64}
 use Rattle.mc_config.specs.CaseLaws.{byPair-elim}
 use Rattle.mc_config.specs.Config.{mainOf}
-use Rattle.mc_unpack.specs.declared.McSettings.{McSettings}
-use Rattle.mc_unpack.specs.Places.{pair}
+use Rattle.mc_payload.specs.declared.McSettings.{McSettings}
+use Rattle.mc_payload.specs.Places.{pair}
 use Rattle.mc_finish.specs.declared.output.Mix.{Mix}
-use Rattle.mc_finish.specs.Scale.{Base, chosen}
-use Rattle.mc_finish.specs.Predict.{baseFor}
-use Rattle.mc_finish.specs.Dematrix.{dematrixed, passed, weighted, unweighted}
+use Rattle.mc_scale.specs.Scale.{Base, chosen}
+use Rattle.mc_predict.specs.Predict.{baseFor}
+use Rattle.mc_dematrix.specs.Dematrix.{dematrixed, passed, weighted, unweighted}
 use Rattle.mc_finish.specs.Output.{second, outputOf}
 use Rattle.mc_finish.specs.Code.OutputByMix.{mixOf, tcsOf, secondBy, channelBy, mainBy, outputBy, baseBy, baseAloneAt, baseAlone}
-use Rattle.mc_finish.specs.Laws.TabSame.{tab-same}
+use Rattle.mc_scale.specs.Laws.TabSame.{tab-same}
 use Rattle.mc_finish.specs.Laws.OutputByMix.{output-written}
 
 unmixed : (p tc : ℕ) (lo ro t2 t3 t4 : Float) (pair : ℕ) → mainOf pair ≡ 0 → dematrixed pair p tc lo ro t2 t3 t4 ≡ lo ∷ ro ∷ zero64 ∷ zero64 ∷ zero64 ∷ []

@@ -10,19 +10,19 @@ use lib.ListN.{length, getD}
 use Rattle.mc_config.specs.ConfigLaws.{main-most}
 use Rattle.mc_config.specs.Config.{mainOf}
 use Rattle.mc_config.specs.Groups.{sbgrOf}
-use Rattle.mc_config.specs.Crosstalk.{T, sourceOf}
-use Rattle.mc_config.specs.CrosstalkLaws.{source-below}
-use Rattle.mc_head.specs.Head.{modeAt, secondAt}
-use Rattle.mc_unpack.specs.declared.McSettings.{McSettings}
-use Rattle.mc_unpack.specs.Places.{pair, sourceAt, sourcesOf, basesOf}
-use Rattle.mc_unpack.specs.Record.{Record}
-use Rattle.mc_finish.specs.Scale.{Base, scaledBase, chosen, scaledAt, scaledOf}
-use Rattle.mc_finish.specs.Predict.{withTerm, sumOf, workAt}
+use Rattle.mc_crosstalk.specs.Crosstalk.{T, sourceOf}
+use Rattle.mc_crosstalk.specs.CrosstalkLaws.{source-below}
+use Rattle.mc_fields.specs.Head.{modeAt, secondAt}
+use Rattle.mc_payload.specs.declared.McSettings.{McSettings}
+use Rattle.mc_payload.specs.Places.{pair, sourceAt, sourcesOf, basesOf}
+use Rattle.mc_payload.specs.Record.{Record}
+use Rattle.mc_scale.specs.Scale.{Base, scaledBase, chosen, scaledAt, scaledOf}
+use Rattle.mc_predict.specs.Predict.{withTerm, sumOf, workAt}
 use Rattle.mc_finish.specs.Output.{workOf, outputAt, outputOf, historyAt, historyOf}
-use Rattle.mc_finish.specs.Laws.Chosen.{crossed-long}
-use Rattle.mc_finish.specs.Laws.ScaleByPlace.{source-at, base-at, scaled-by-place}
-use Rattle.mc_finish.specs.Code.ScaleByPlace.{factorsOf, scaledByPlace}
-use Rattle.mc_finish.specs.Code.PredictByLine.{predictedWork}
+use Rattle.mc_predict.specs.Laws.Chosen.{crossed-long}
+use Rattle.mc_scale.specs.Laws.ScaleByPlace.{source-at, base-at, scaled-by-place}
+use Rattle.mc_scale.specs.Code.ScaleByPlace.{factorsOf, scaledByPlace}
+use Rattle.mc_predict.specs.Code.PredictByLine.{predictedWork}
 use Rattle.mc_finish.specs.Laws.PredictByLine.{work-predicted}
 use Rattle.mc_finish.specs.Finish.{baseFrom, recordFrom, Tables, BaseFits}
 

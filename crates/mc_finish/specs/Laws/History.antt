@@ -10,16 +10,16 @@ use Rattle.fill.specs.Tab.{tab}
 use Rattle.fill.specs.TabLaws.{all-filled}
 use Rattle.fill.specs.ByTurn.{ByTurn, turn-ends}
 use Rattle.mc_config.specs.CaseLaws.{cond-all}
-use Rattle.mc_unpack.specs.declared.McSettings.{McSettings}
-use Rattle.mc_finish.specs.Scale.{Base, chosen}
-use Rattle.mc_finish.specs.Predict.{baseFor}
+use Rattle.mc_payload.specs.declared.McSettings.{McSettings}
+use Rattle.mc_scale.specs.Scale.{Base, chosen}
+use Rattle.mc_predict.specs.Predict.{baseFor}
 use Rattle.mc_finish.specs.Output.{channels, second, historyAt, historyOf}
 use Rattle.mc_finish.specs.Code.OutputByMix.{lineBy, historyBy}
-use Rattle.mc_finish.specs.Laws.Chosen.{chosen-base}
-use Rattle.mc_finish.specs.Code.Strided.{strided}
-use Rattle.mc_finish.specs.Laws.Strided.{length-strided, getD-strided, strided-other}
-use Rattle.mc_finish.specs.Laws.TabSame.{tab-same}
-use Rattle.mc_finish.specs.Laws.TurnBlock.{turn-block}
+use Rattle.mc_predict.specs.Laws.Chosen.{chosen-base}
+use Rattle.mc_scale.specs.Code.Strided.{strided}
+use Rattle.mc_scale.specs.Laws.Strided.{length-strided, getD-strided, strided-other}
+use Rattle.mc_scale.specs.Laws.TabSame.{tab-same}
+use Rattle.mc_scale.specs.Laws.TurnBlock.{turn-block}
 
 -- both base channels are of one length, and so is the one that is chosen
 pub line-long : (ch : ℕ) (left right base : List Float) → length left ≡ 1152 → length right ≡ 1152 → base ≡ chosen ch left right → length base ≡ 1152

@@ -15,8 +15,8 @@ use Rattle.fill.specs.ByTurn.{ByTurn, turn-more, turn-ends}
 use Rattle.mc_finish.specs.declared.output.Mix.{Mix}
 use Rattle.mc_finish.specs.Code.OutputByMix.{mainBy, mixedBy, SecondFits, secondBy, outputBy, mixedOfAt, mixedOf, withSecondAt, withSecond, beyondAt, beyond}
 use Rattle.mc_finish.specs.Laws.OutputByMix.{length-dematrixed, second-value}
-use Rattle.mc_finish.specs.Laws.TabSame.{tab-same}
-use Rattle.mc_finish.specs.Laws.TurnBlock.{turn-skip, turn-rest}
+use Rattle.mc_scale.specs.Laws.TabSame.{tab-same}
+use Rattle.mc_scale.specs.Laws.TurnBlock.{turn-skip, turn-rest}
 
 -- ---- +0 beyond the layout
 

@@ -19,19 +19,19 @@ use Rattle.mc_config.specs.Config.{mainOf, configOf, frontChannels, surroundCha
 use Rattle.mc_config.specs.ConfigLaws.{layout-length, nmch-config, nmch-most}
 use Rattle.mc_config.specs.Groups.{sbgrOf}
 use Rattle.mc_config.specs.TableLaws.{getD-default}
-use Rattle.mc_unpack.specs.declared.McSettings.{McSettings}
-use Rattle.mc_unpack.specs.Places.{config, pair}
+use Rattle.mc_payload.specs.declared.McSettings.{McSettings}
+use Rattle.mc_payload.specs.Places.{config, pair}
 use Rattle.mc_finish.specs.declared.output.Mix.{Mix}
-use Rattle.mc_finish.specs.Scale.{Base, chosen}
-use Rattle.mc_finish.specs.Predict.{baseFor}
-use Rattle.mc_finish.specs.Dematrix.{dematrixed, passed, weighted, unweighted}
+use Rattle.mc_scale.specs.Scale.{Base, chosen}
+use Rattle.mc_predict.specs.Predict.{baseFor}
+use Rattle.mc_dematrix.specs.Dematrix.{dematrixed, passed, weighted, unweighted}
 use Rattle.mc_finish.specs.Output.{baseValue, mainAt, mixedAt, channels, second, outputAt, outputOf}
 use Rattle.mc_finish.specs.Code.OutputByMix.{mixOf, tcsOf, mixedBy, SecondFits, secondBy, channelBy, outputBy, mixedOfAt}
-use Rattle.mc_finish.specs.Laws.Chosen.{first-base}
-use Rattle.mc_finish.specs.Code.Strided.{across}
-use Rattle.mc_finish.specs.Laws.Strided.{length-strided, getD-strided, strided-other}
-use Rattle.mc_finish.specs.Laws.TabSame.{tab-same}
-use Rattle.mc_finish.specs.Laws.TurnBlock.{turn-block}
+use Rattle.mc_predict.specs.Laws.Chosen.{first-base}
+use Rattle.mc_scale.specs.Code.Strided.{across}
+use Rattle.mc_scale.specs.Laws.Strided.{length-strided, getD-strided, strided-other}
+use Rattle.mc_scale.specs.Laws.TabSame.{tab-same}
+use Rattle.mc_scale.specs.Laws.TurnBlock.{turn-block}
 
 -- one slot and subband of a loop that writes five channels side by side
 pub turn-across :

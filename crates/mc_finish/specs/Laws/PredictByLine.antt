@@ -7,14 +7,14 @@ use native.Mathlib.Omega.{arith}
 use lib.Ieee.{Float, nan}
 use lib.ListN.{getD}
 use Rattle.fill.specs.TabLaws.{getD-tab}
-use Rattle.mc_unpack.specs.declared.McSettings.{McSettings}
-use Rattle.mc_unpack.specs.Record.{Record}
-use Rattle.mc_finish.specs.Laws.Chosen.{first-base}
-use Rattle.mc_finish.specs.Scale.{Base, chosen, scaledAt, scaledOf}
-use Rattle.mc_finish.specs.Predict.{baseFor, coefAt, delayAt, withTerm, sumOf, placeIn, predictedIn, workAt}
+use Rattle.mc_payload.specs.declared.McSettings.{McSettings}
+use Rattle.mc_payload.specs.Record.{Record}
+use Rattle.mc_predict.specs.Laws.Chosen.{first-base}
+use Rattle.mc_scale.specs.Scale.{Base, chosen, scaledAt, scaledOf}
+use Rattle.mc_predict.specs.Predict.{baseFor, coefAt, delayAt, withTerm, sumOf, placeIn, predictedIn, workAt}
 use Rattle.mc_finish.specs.Output.{workOf}
-use Rattle.mc_finish.specs.Code.PredictByLine.{lineAt, lineOf, termOf, termsOf, sumBy, groupsOf, predictedWork}
-use Rattle.mc_finish.specs.Laws.TabSame.{tab-same}
+use Rattle.mc_predict.specs.Code.PredictByLine.{lineAt, lineOf, termOf, termsOf, sumBy, groupsOf, predictedWork}
+use Rattle.mc_scale.specs.Laws.TabSame.{tab-same}
 
 line-value : (history base : List Float) (ch sb t : ℕ) → t < 45 → getD (lineOf history base ch sb) t nan ≡ lineAt history base ch sb t
 unfolding lineOf

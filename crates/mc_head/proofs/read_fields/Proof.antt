@@ -1,7 +1,7 @@
 -- `mc_head::read_fields` meets its contract.
 use borrow.Author.Needs.{needs}
 use lib.Dec.{lit≤}
-use Rattle.bits.specs.CursorLaws.{cur-fits}
+use Rattle.cursor.specs.CursorLaws.{cur-fits}
 use Rattle.mc_head.proofs.HeadWalk.{widths-fit, fields-read}
 use Rattle.mc_head.proofs.read_fields.Statement.{statement}
 use Rattle.mc_head.proofs.read_fields.Tie as tie

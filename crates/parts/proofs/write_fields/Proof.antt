@@ -3,7 +3,7 @@ use Prim.Native.Nat.{_-_}
 use native.Mathlib.Omega.{arith}
 use borrow.Author.Needs.{needs}
 use Rattle.fill.specs.InOrder.{Filling, starts, more, ends-all}
-use Rattle.parts.specs.Parts.{byteOf}
+use Rattle.part_tables.specs.Parts.{byteOf}
 use Rattle.parts.specs.PartsLaws.{all-bytes}
 use Rattle.parts.proofs.write_fields.Statement.{statement}
 use Rattle.parts.proofs.write_fields.Tie as tie

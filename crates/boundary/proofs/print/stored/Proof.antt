@@ -1,5 +1,5 @@
 -- `boundary::print::stored` meets its contract, for one base channel and for two.
-use Rattle.boundary.specs.RunLaws.{stored-mono, stored-stereo}
+use Rattle.boundary_run.specs.RunLaws.{stored-mono, stored-stereo}
 use borrow.Author.Needs.{needs}
 use Rattle.boundary.proofs.print.stored.Statement.{statement}
 use Rattle.boundary.proofs.print.stored.Tie as tie

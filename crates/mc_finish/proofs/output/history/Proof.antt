@@ -6,11 +6,11 @@ use lib.Ieee.{nan}
 use lib.ListN.{length}
 use borrow.Author.Needs.{needs}
 use Rattle.fill.specs.ByTurn.{ByTurn, turn-starts}
-use Rattle.mc_finish.specs.Scale.{scaledBase}
-use Rattle.mc_finish.specs.Laws.Chosen.{chosen-long}
+use Rattle.mc_scale.specs.Scale.{scaledBase}
+use Rattle.mc_predict.specs.Laws.Chosen.{chosen-long}
 use Rattle.mc_finish.specs.Code.OutputByMix.{historyBy}
 use Rattle.mc_finish.specs.Laws.History.{turn-line, line-long, lines-end, history-kept}
-use Rattle.mc_finish.specs.Laws.Strided.{length-strided}
+use Rattle.mc_scale.specs.Laws.Strided.{length-strided}
 use native.Mathlib.Omega.{arith}
 use Rattle.mc_finish.proofs.output.history.Statement.{statement}
 use Rattle.mc_finish.proofs.output.history.Tie as tie

@@ -3,7 +3,7 @@ use mathlib.Core.Logic.{⊎-elim}
 use Prim.Native.Nat.{_-_}
 use borrow.Author.Tests.{lt-ltb, le-ltb}
 use Rattle.mc_finish.specs.Code.OutputByMix.{channelBy}
-use Rattle.mc_finish.specs.Laws.Strided.{Striding, stride-starts, stride-more, stride-ends}
+use Rattle.mc_scale.specs.Laws.Strided.{Striding, stride-starts, stride-more, stride-ends}
 use native.Mathlib.Omega.{arith}
 use Rattle.mc_finish.proofs.output.store.Statement.{statement}
 use Rattle.mc_finish.proofs.output.store.Tie as tie

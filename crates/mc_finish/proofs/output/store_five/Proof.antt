@@ -4,7 +4,7 @@ use Prim.Native.Nat.{ℕ, _-_}
 use native.Mathlib.Omega.{arith}
 use lib.Ieee.{nan}
 use lib.ListN.{getD}
-use Rattle.mc_finish.specs.Laws.Strided.{Striding, stride-starts, stride-more, stride-ends}
+use Rattle.mc_scale.specs.Laws.Strided.{Striding, stride-starts, stride-more, stride-ends}
 use Rattle.mc_finish.proofs.output.store_five.Statement.{statement}
 use Rattle.mc_finish.proofs.output.store_five.Tie as tie
 

@@ -2,7 +2,7 @@
 use mathlib.Core.Path.{_≡_, refl}
 use Prim.Native.Nat.{_+_, _-_, _*_}
 use Rattle.mc_finish.specs.Code.OutputByMix.{lineBy}
-use Rattle.mc_finish.specs.Laws.Strided.{Striding, stride-starts, stride-more, stride-ends}
+use Rattle.mc_scale.specs.Laws.Strided.{Striding, stride-starts, stride-more, stride-ends}
 use native.Mathlib.Omega.{arith}
 use Rattle.mc_finish.proofs.output.store_line.Statement.{statement}
 use Rattle.mc_finish.proofs.output.store_line.Tie as tie

@@ -2,10 +2,10 @@
 use mathlib.Core.Path.{_∙_, ap}
 use lib.Dec.{eqb}
 use lib.ListN.{length}
-use Rattle.mc_finish.specs.Scale.{scaledBase}
-use Rattle.mc_finish.specs.Laws.Chosen.{chosen-long}
+use Rattle.mc_scale.specs.Scale.{scaledBase}
+use Rattle.mc_predict.specs.Laws.Chosen.{chosen-long}
 use Rattle.mc_config.specs.ConfigLaws.{layout-length}
-use Rattle.mc_unpack.specs.Places.{config}
+use Rattle.mc_payload.specs.Places.{config}
 use Rattle.mc_finish.specs.Laws.LayOut.{mixed-all, laid-out}
 use Rattle.mc_finish.specs.Laws.OutputByMix.{second-fits, output-written}
 use Rattle.mc_finish.specs.Laws.BaseAlone.{alone-written}

@@ -35,8 +35,8 @@ use denote.Steps.{only, opens, closes, owned, peeks, heard, nothing}
 use denote.Struct.Steps.{spelt}
 use denote.Struct.Laws as LL
 use denote.Enum.Laws as EL
-use Rattle.mc_frame.proofs.McAnswer as E
-use Rattle.mc_frame.proofs.McAnswer.Laws as E′
+use Rattle.mc_state.proofs.McAnswer as E
+use Rattle.mc_state.proofs.McAnswer.Laws as E′
 use denote.Triple.Entry.{onEntry}
 use denote.Triple.Spec.{Meets, tripleOf}
 use denote.Triple.Statement.{Contract, Triple}
@@ -47,18 +47,18 @@ use denote.Triple.Walked.{says, Stays, stay-ref, stay-dropped, gave-slice, walkO
 use denote.Exit.{yes}
 use denote.Signature.{Slot, plain, shrSliceOf}
 use Rattle.mc_finish.specs.Finish.{baseFrom}
-use Rattle.mc_frame.specs.Answer.{lentOf, buffersFrom, afterOf}
-use Rattle.mc_frame.specs.Frame.{frameOf}
-use Rattle.mc_frame.specs.declared.McDecodeState.{McDecodeState}
-use Rattle.mc_frame.specs.declared.Framed.{Framed}
-use Rattle.mc_frame.proofs.McDecodeState as T
-use Rattle.mc_frame.proofs.McDecodeState.Laws as T′
-use Rattle.mc_frame.proofs.Framed as S
-use Rattle.mc_frame.proofs.Framed.Laws as S′
-use Rattle.mc_frame.proofs.frame.frame as callee
-use Rattle.mc_frame.proofs.frame.frame.Symbol as callee-def
-use Rattle.mc_frame.proofs.frame.frame.Symbol.{name as #callee}
-use Rattle.mc_frame.proofs.frame.frame.Met as callee-thm
+use Rattle.mc_state.specs.Answer.{lentOf, buffersFrom, afterOf}
+use Rattle.mc_state.specs.Frame.{frameOf}
+use Rattle.mc_state.specs.declared.McDecodeState.{McDecodeState}
+use Rattle.mc_state.specs.declared.Framed.{Framed}
+use Rattle.mc_state.proofs.McDecodeState as T
+use Rattle.mc_state.proofs.McDecodeState.Laws as T′
+use Rattle.mc_state.proofs.Framed as S
+use Rattle.mc_state.proofs.Framed.Laws as S′
+use Rattle.mc_decode.proofs.frame_by_value as callee
+use Rattle.mc_decode.proofs.frame_by_value.Symbol as callee-def
+use Rattle.mc_decode.proofs.frame_by_value.Symbol.{name as #callee}
+use Rattle.mc_decode.proofs.frame_by_value.Met as callee-thm
 use Rattle.mc_frame.proofs.call.decode_mc_frame.Key.{name as #thin}
 use Rattle.mc_frame.proofs.call.decode_mc_frame as thin
 use Rattle.mc_frame.proofs.call.decode_mc_frame.Statement as stated
@@ -272,4 +272,4 @@ decode-mc-frame-spec 𝓤 H 𝓜 𝓖 𝓡 =
     entered 𝓤 H (tripleOf 𝓤 H (𝓖 .A) thin.signature (thin.spec 𝓤 H (𝓖 .A) (𝓜 .mem) (𝓡 .run)))
     (tables 𝓤 H 𝓜 𝓡 code.env .C) (tables 𝓤 H 𝓜 𝓡 code.env .Λ) #thin code.function (code.unfolded 𝓤 H 𝓜 𝓡)
     (meets 𝓤 H (𝓖 .A) (givenOf 𝓤 H 𝓜 𝓖) (𝓜 .mem) (𝓡 .run) (tablesOf 𝓤 H 𝓜 (tables 𝓤 H 𝓜 𝓡 code.env))
-    (cited 𝓤 H (Callee 𝓤 H (𝓖 .A) (𝓜 .mem) (𝓡 .run)) 𝓜 𝓡 code.env #callee callee-def.routine code.calls-mc-frame·frame·frame (callee-thm.met 𝓤 H 𝓜 𝓖 𝓡)))
+    (cited 𝓤 H (Callee 𝓤 H (𝓖 .A) (𝓜 .mem) (𝓡 .run)) 𝓜 𝓡 code.env #callee callee-def.routine code.calls-mc-decode·frame-by-value (callee-thm.met 𝓤 H 𝓜 𝓖 𝓡)))

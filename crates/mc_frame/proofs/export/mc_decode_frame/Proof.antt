@@ -44,12 +44,12 @@ use denote.Triple.Walked.{says, Stays, stay-ref, stay-dropped, gave-slice, walkO
 use denote.Exit.{yes}
 use denote.Signature.{Slot, plain, shrSliceOf}
 use Rattle.mc_finish.specs.Finish.{baseFrom}
-use Rattle.mc_frame.specs.Answer.{lentOf, buffersFrom, packedBy, packedOf}
-use Rattle.mc_frame.specs.Frame.{frameOf}
-use Rattle.mc_frame.specs.declared.McDecodeState.{McDecodeState}
+use Rattle.mc_state.specs.Answer.{lentOf, buffersFrom, packedBy, packedOf}
+use Rattle.mc_state.specs.Frame.{frameOf}
+use Rattle.mc_state.specs.declared.McDecodeState.{McDecodeState}
 use Rattle.mc_frame.specs.declared.export.PackedFrame.{PackedFrame}
-use Rattle.mc_frame.proofs.McDecodeState as T
-use Rattle.mc_frame.proofs.McDecodeState.Laws as T′
+use Rattle.mc_state.proofs.McDecodeState as T
+use Rattle.mc_state.proofs.McDecodeState.Laws as T′
 use Rattle.mc_frame.proofs.export.PackedFrame as S
 use Rattle.mc_frame.proofs.export.PackedFrame.Laws as S′
 use Rattle.mc_frame.proofs.export.packed_frame as callee

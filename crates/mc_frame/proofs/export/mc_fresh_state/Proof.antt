@@ -43,11 +43,11 @@ use denote.Triple.Table.{entered, cited}
 use denote.Triple.Walked.{says, Stays, stay-ref, stay-dropped, gave-slice, walkOf, goes-ref, goes-dropped, goes-gave-slice, Walks, ends-at, walked, walk-meets}
 use denote.Exit.{yes}
 use denote.Signature.{Slot, plain, shrSliceOf}
-use Rattle.mc_frame.specs.Frame.{fresh}
-use Rattle.mc_frame.specs.declared.McDecodeState.{McDecodeState}
+use Rattle.mc_state.specs.Frame.{fresh}
+use Rattle.mc_state.specs.declared.McDecodeState.{McDecodeState}
 use Rattle.mc_frame.specs.declared.export.Refreshed.{Refreshed}
-use Rattle.mc_frame.proofs.McDecodeState as T
-use Rattle.mc_frame.proofs.McDecodeState.Laws as T′
+use Rattle.mc_state.proofs.McDecodeState as T
+use Rattle.mc_state.proofs.McDecodeState.Laws as T′
 use Rattle.mc_frame.proofs.export.Refreshed as S
 use Rattle.mc_frame.proofs.export.Refreshed.Laws as S′
 use Rattle.mc_frame.proofs.export.renewed as callee

@@ -1,5 +1,5 @@
 -- `mc_frame::export::pack` meets its contract.
-use Rattle.mc_frame.specs.PackLaws.{packs-accepted, packs-refused}
+use Rattle.mc_state.specs.PackLaws.{packs-accepted, packs-refused}
 use borrow.Author.Needs.{needs}
 use Rattle.mc_frame.proofs.export.pack.Statement.{statement}
 use Rattle.mc_frame.proofs.export.pack.Tie as tie

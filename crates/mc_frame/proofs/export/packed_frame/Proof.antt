@@ -1,12 +1,12 @@
 -- `mc_frame::export::packed_frame` meets its contract.
-use Rattle.mc_frame.specs.PackLaws.{packs-after}
+use Rattle.mc_state.specs.PackLaws.{packs-after}
 use borrow.Author.Needs.{needs}
 use Rattle.mc_frame.proofs.export.packed_frame.Statement.{statement}
 use Rattle.mc_frame.proofs.export.packed_frame.Tie as tie
 use Rattle.mc_frame.proofs.export.packed_frame.Reads as reads
 use Rattle.mc_frame.proofs.export.packed_frame.Lts as lts
 use Rattle.mc_frame.proofs.export.pack.Reads as pack-reads
-use Rattle.mc_frame.proofs.frame.frame.Reads as frame-reads
+use Rattle.mc_decode.proofs.frame_by_value.Reads as frame-reads
 
 -- src/export.rt:55:9
 frame-requires : tie.Need-frame-requires

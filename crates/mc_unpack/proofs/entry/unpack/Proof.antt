@@ -1,6 +1,6 @@
 -- `entry::unpack` meets its contract.
 use borrow.Author.Needs.{needs}
-use Rattle.mc_unpack.specs.Answer.{loanBy}
+use Rattle.mc_payload.specs.Unpack.{loanBy}
 use Rattle.mc_unpack.proofs.EntryAnswer.{refused-number, refused-after, writers-ready, accepted-after}
 use Rattle.mc_unpack.proofs.entry.unpack.Statement.{statement}
 use Rattle.mc_unpack.proofs.entry.unpack.Tie as tie

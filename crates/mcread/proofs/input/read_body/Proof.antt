@@ -1,7 +1,7 @@
 -- `mcread::input::read_body` is safe: the bytes that were read are all that the frame has.
 use mathlib.Core.Path.{sym, _∙_}
 use lib.Seq.{length-take-le}
-use Rattle.mcread.specs.LentLaws.{kept-room, kept-count}
+use Rattle.frame_body.specs.LentLaws.{kept-room, kept-count}
 use borrow.Author.Needs.{needs}
 use Rattle.mcread.proofs.input.read_body.Statement.{statement}
 use Rattle.mcread.proofs.input.read_body.Tie as tie

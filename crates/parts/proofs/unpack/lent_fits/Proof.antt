@@ -1,7 +1,7 @@
 -- `parts::unpack::lent_fits` meets its contract.
 use mathlib.Core.Path.{_≡_}
 use mathlib.Core.Bool.{Bool, _&&_}
-use Rattle.parts.specs.Payload.{lentBy}
+use Rattle.part_tables.specs.Payload.{lentBy}
 use borrow.Author.Needs.{needs}
 use Rattle.parts.proofs.unpack.lent_fits.Statement.{statement}
 use Rattle.parts.proofs.unpack.lent_fits.Tie as tie

@@ -1,6 +1,6 @@
 -- `parts::unpack::mc_part_unpack` meets its contract.
-use Rattle.parts.specs.Payload.{lentOf, buffersFrom}
-use Rattle.parts.specs.PayloadLaws.{after-lent, long, after-head, after-payload}
+use Rattle.part_tables.specs.Payload.{lentOf, buffersFrom}
+use Rattle.part_tables.specs.PayloadLaws.{after-lent, long, after-head, after-payload}
 use borrow.Author.Needs.{needs}
 use Rattle.parts.proofs.unpack.mc_part_unpack.Statement.{statement}
 use Rattle.parts.proofs.unpack.mc_part_unpack.Tie as tie

@@ -1,7 +1,7 @@
 -- `parts::unpack::unpack_under` meets its contract.
 use mathlib.Core.Path.{refl}
-use Rattle.mc_unpack.specs.Answer.{loanBy}
-use Rattle.parts.specs.PayloadLaws.{left-by}
+use Rattle.mc_payload.specs.Unpack.{loanBy}
+use Rattle.part_tables.specs.PayloadLaws.{left-by}
 use borrow.Author.Needs.{needs}
 use Rattle.parts.proofs.unpack.unpack_under.Statement.{statement}
 use Rattle.parts.proofs.unpack.unpack_under.Tie as tie

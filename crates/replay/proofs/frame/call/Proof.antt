@@ -1,5 +1,5 @@
 -- `replay::frame::call` meets its contract.
-use Rattle.replay.specs.OpeningLaws.{called}
+use Rattle.replay_list.specs.OpeningLaws.{called}
 use borrow.Author.Needs.{needs}
 use Rattle.replay.proofs.frame.call.Statement.{statement}
 use Rattle.replay.proofs.frame.call.Tie as tie

@@ -2,7 +2,7 @@
 use mathlib.Core.Path.{ap, _∙_}
 use Prim.Native.Nat.{ℕ, _+_}
 use lib.ListN.{length}
-use Rattle.replay.specs.Opening.{lentValues}
+use Rattle.replay_list.specs.Opening.{lentValues}
 use borrow.Author.Needs.{needs}
 use Rattle.replay.proofs.frame.rebuild.Statement.{statement}
 use Rattle.replay.proofs.frame.rebuild.Tie as tie

@@ -1,5 +1,5 @@
 -- `replay::frame::rebuilt_frame` meets its contract.
-use Rattle.replay.specs.OpeningLaws.{rebuilt}
+use Rattle.replay_list.specs.OpeningLaws.{rebuilt}
 use borrow.Author.Needs.{needs}
 use Rattle.replay.proofs.frame.rebuilt_frame.Statement.{statement}
 use Rattle.replay.proofs.frame.rebuilt_frame.Tie as tie

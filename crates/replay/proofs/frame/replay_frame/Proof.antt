@@ -2,8 +2,8 @@
 use mathlib.Core.Path.{sym, refl}
 use native.Mathlib.Omega.{arith}
 use Prim.Native.Nat.{_+_}
-use Rattle.replay.specs.Opening.{secondLent}
-use Rattle.replay.specs.OpeningLaws.{taken, lent-whole}
+use Rattle.replay_list.specs.Opening.{secondLent}
+use Rattle.replay_list.specs.OpeningLaws.{taken, lent-whole}
 use borrow.Author.Needs.{needs}
 use Rattle.replay.proofs.frame.replay_frame.Statement.{statement}
 use Rattle.replay.proofs.frame.replay_frame.Tie as tie

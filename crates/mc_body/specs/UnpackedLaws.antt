@@ -1,0 +1,122 @@
+-- Each way through a frame from its payload on leaves what the definition says.
+use mathlib.Core.Path.{_≡_, refl, sym, ap, _∙_}
+use mathlib.Core.Bool.{Bool, true, false, not, cond}
+use mathlib.Core.List.{List}
+use Prim.Native.Nat.{ℕ, _≤_, _<_}
+use native.Mathlib.Omega.{arith}
+use borrow.Author.Tests.{eq-eqb, ne-eqb, not-true, not-false}
+use lib.Ieee.{Float}
+use lib.ListN.{length}
+use mir.Val.{Fits}
+use mir.Syntax.{w8}
+use Rattle.mc_config.specs.Config.{configOf}
+use Rattle.mc_config.specs.ConfigLaws.{layout-length}
+use Rattle.bits.specs.Syntax.{plain, accepted, refused, run}
+use Rattle.bits.specs.Yields.{accepted-yields}
+use Rattle.mc_error.specs.Error.{refusalOf}
+use Rattle.mc_error.specs.declared.McError.{McError}
+use Rattle.mc_error.specs.declared.McError.the-variants.{ConfigChanged}
+use Rattle.mc_payload.specs.declared.McSettings.{McSettings}
+use Rattle.mc_codes.specs.declared.payload.PayloadCodes.{PayloadCodes}
+use Rattle.mc_codes.specs.Outcome
+use Rattle.mc_payload.specs.Payload.{Codes}
+use Rattle.mc_unpack.specs.Settled.{settledOf, Numbered}
+use Rattle.mc_unpack.specs.SettledLaws.{Writable, settled-numbered, settled-writable}
+use Rattle.mc_payload.specs.Record.{rawOf, lfeOf, recordOf}
+use Rattle.mc_payload.specs.Unpack.{allocationsFit, payloadOf, Loan, settingsOf}
+use Rattle.mc_payload.specs.Demand3.Widths.{Fitting, codes-fit}
+use Rattle.mc_scale.specs.Scale.{Base, scaledBase}
+use Rattle.mc_finish.specs.Output.{channels, workOf, outputOf, historyAt, historyOf}
+use Rattle.mc_finish.specs.Finish.{BaseFits}
+use Rattle.mc_state.specs.declared.McAnswer.the-variants.{Accepted, Refused}
+use Rattle.mc_state.specs.declared.McDecodeState.{McDecodeState}
+use Rattle.mc_state.specs.Frame.{Buffers, follows, verdictUnpacked, answerOf, written, buffersOf, oneMore, stateOf, afterUnpacked}
+use Rattle.mc_state.specs.Answer.{buffersFrom, afterOf}
+use Rattle.mc_state.specs.Long.{Long, Delayed}
+use Rattle.mc_body.specs.WriteLaws.{delayed}
+
+-- ---- what was read
+
+settled-ran : (s : McSettings) (bytes : List ℕ) (bits : ℕ) (c : Codes) (u : ℕ) (t : Bool) → cond t (run (payloadOf s) bytes bits 0) (refused (plain 8)) ≡ accepted c u
+    → run (payloadOf s) bytes bits 0 ≡ accepted c u
+settled-ran s bytes bits c u true e = e
+settled-ran s bytes bits c u false e = let z : _≡_ {A = ℕ} 0 1 = cc in absurd (omega arith)
+
+-- ---- what the parts require
+
+module _ (s : McSettings) (l : Loan) (es : s ≡ settingsOf l) where
+  pub lfe-low : l .lfe ≤ 15 → s .«lfe_allocation» ≤ 15
+  unfolding settingsOf
+  lfe-low h = rw es h
+
+  module _ (base : Base) (w : Buffers) (h : Long (l .baseChannels) base w) where
+    pub base-fits : BaseFits s base
+    unfolding settingsOf
+    base-fits = rw es (record { rawLeftLong = h .rawLeft; rawRightLong = h .rawRight; scaledLeftLong = h .scaledLeft; scaledRightLong = h .scaledRight })
+
+-- history looks at the scaled values alone
+pub history-same : (s : McSettings) (base : Base) (h : List Float) → h ≡ historyOf s (scaledBase (base .scaledLeft) (base .scaledRight)) → h ≡ historyOf s base
+unfolding historyOf historyAt
+history-same s base h e = e
+
+pub channels-fit : (s : McSettings) (n : ℕ) → n ≡ channels s → Fits w8 n
+channels-fit s n e = record { fits = omega (arith, e, layout-length (configOf (s .header) (s .«base_channels»))) }
+
+pub written-is : (s : McSettings) (c : Codes) (base : Base) (history raw work output lfe : List Float)
+    → raw ≡ rawOf s c → work ≡ workOf s (recordOf s c) base history → output ≡ outputOf s base work → lfe ≡ lfeOf (s .«lfe_allocation») c
+    → buffersFrom raw work output lfe ≡ written s c base history
+unfolding written recordOf
+written-is s c base history raw work output lfe er ew eo el = rw (er, eo, ew, el)
+
+-- ---- what a payload was settled as
+
+module _ (s : McSettings) (payload : List ℕ) (bits : ℕ) (codes : PayloadCodes) (o : Outcome.outcomeOf codes ≡ settledOf s payload bits) where
+  module _ (z : codes .cursor .err ≡ 0 → ⊥) where
+    is-refused : settledOf s payload bits ≡ refused (plain (codes .cursor .err))
+    unfolding Outcome.outcomeOf
+    is-refused = sym o ∙ rw (ne-eqb (codes .cursor .err) 0 z)
+
+    pub refused-number : Numbered (codes .cursor .err)
+    refused-number = settled-numbered s payload bits (codes .cursor .err) is-refused
+
+  module _ (z : codes .cursor .err ≡ 0) where
+    is-accepted : settledOf s payload bits ≡ accepted (Outcome.codesOf codes) (codes .cursor .at)
+    unfolding Outcome.outcomeOf
+    is-accepted = sym o ∙ rw (eq-eqb (codes .cursor .err) 0 z)
+
+    pub writable : Writable s (Outcome.codesOf codes)
+    writable = settled-writable s payload bits (Outcome.codesOf codes) (codes .cursor .at) is-accepted
+
+    pub delays-small : Delayed (codes .predictors)
+    unfolding settledOf
+    delays-small =
+        delayed s (Outcome.codesOf codes)
+        (accepted-yields (codes-fit s) payload bits 0 (Outcome.codesOf codes) (codes .cursor .at)
+        (settled-ran s payload bits (Outcome.codesOf codes) (codes .cursor .at) (allocationsFit s) is-accepted))
+
+-- ---- the three ways to end
+
+module _ (st : McDecodeState) (headUsed : ℕ) (base : Base) (w : Buffers) (s : McSettings) (payload : List ℕ) (bits : ℕ) (codes : PayloadCodes)
+    (o : Outcome.outcomeOf codes ≡ settledOf s payload bits) (s′ : McSettings) (es : s ≡ s′)
+  where
+    pub after-refused : (codes .cursor .err ≡ 0 → ⊥) → (e : McError) → refusalOf e ≡ plain (codes .cursor .err)
+        → afterOf (record { answer = Refused e; state = st }) w ≡ afterUnpacked st s′ headUsed payload bits base w
+    unfolding afterUnpacked verdictUnpacked answerOf buffersOf stateOf
+    after-refused z e ee = rw (← es, is-refused s payload bits codes o z, ee)
+
+    module _ (z : codes .cursor .err ≡ 0) (n : ℕ) (en : n ≡ channels s) (h : List Float) (eh : h ≡ historyOf s base) (b : Bool) (eb : b ≡ follows (st .«layout_len») n) where
+      pub after-changed : not b ≡ true
+          → afterOf (record { answer = Refused ConfigChanged; state = record { «pred_hist» = h; «layout_len» = st .«layout_len»; accepted = st .accepted } }) w
+          ≡ afterUnpacked st s′ headUsed payload bits base w
+      unfolding afterUnpacked verdictUnpacked answerOf buffersOf stateOf
+      after-changed t =
+          let f : follows (st .«layout_len») (channels s) ≡ false = rw (← en, ← eb) (not-true b t) in
+          rw (← es, is-accepted s payload bits codes o z, f, eh)
+
+      pub after-accepted : not b ≡ false → (a : ℕ) → a ≡ oneMore (st .accepted) → (w′ : Buffers) → w′ ≡ written s (Outcome.codesOf codes) base (st .«pred_hist»)
+          → afterOf (record { answer = Accepted headUsed (codes .cursor .at); state = record { «pred_hist» = h; «layout_len» = n; accepted = a } }) w′
+          ≡ afterUnpacked st s′ headUsed payload bits base w
+      unfolding afterUnpacked verdictUnpacked answerOf buffersOf stateOf
+      after-accepted t a ea w′ ew =
+          let f : follows (st .«layout_len») (channels s) ≡ true = rw (← en, ← eb) (not-false b t) in
+          rw (← es, is-accepted s payload bits codes o z, f, eh, en, ea, ew)

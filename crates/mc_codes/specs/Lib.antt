@@ -1,0 +1,3 @@
+-- the codes by the tables that the code holds
+pub mod Parts
+pub mod Outcome

@@ -1,0 +1,5 @@
+pub mod Crosstalk
+pub mod Predictors
+pub mod CrosstalkRecords
+pub mod CrosstalkLaws
+pub mod PredictorsLaws

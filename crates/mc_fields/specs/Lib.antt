@@ -1,0 +1,9 @@
+pub mod Head
+pub mod BitsIfLaws
+pub mod FieldLaws
+pub mod ForbiddenLaws
+pub mod StatusYields
+pub mod HeadYields
+pub mod HeadRecovers
+pub mod HeadWidth
+pub mod LongestHead

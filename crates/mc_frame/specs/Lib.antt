@@ -1,9 +1,0 @@
-pub mod Frame
-pub mod Answer
-pub mod Long
-pub mod WriteLaws
-pub mod UnpackedLaws
-pub mod FrameLaws
-pub mod PackLaws
-pub mod Boundary
-pub mod BoundaryProof

@@ -1,0 +1,15 @@
+// What a payload is read under. The definition of the payload (ISO/IEC 13818-3, 2.5.1.17), demand 3 and the longest payload stand in specs/.
+use mc_config::McHeader;
+use mc_fields::McStatus;
+
+pub struct McSettings {
+    pub rate: u32,
+    pub base_channels: u8,
+    pub header: McHeader,
+    pub status: McStatus,
+    pub lfe_allocation: u8,
+    // transmitted step counts: channel and subband at 32 * channel + subband
+    pub nb_steps: [u32; 96],
+    // base step counts, likewise
+    pub base_nb_steps: [u32; 64],
+}

@@ -1,0 +1,2 @@
+pub mod PlacesBuilt
+pub mod LoanTested

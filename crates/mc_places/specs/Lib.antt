@@ -1,0 +1,5 @@
+-- the places by the tables that the code holds
+pub mod PlacesBy
+-- laws
+pub mod PlacesLaws
+pub mod AllocationsLaws

@@ -1,0 +1,2 @@
+-- Definitions in the order in which the code works: what its inner functions promise.
+pub mod PredictByLine

@@ -1,0 +1,3 @@
+pub mod Predict
+pub mod Code
+pub mod Laws

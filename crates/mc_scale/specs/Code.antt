@@ -1,0 +1,4 @@
+-- Definitions in the order in which the code works: what its inner functions promise.
+pub mod Strided
+pub mod Column
+pub mod ScaleByPlace

@@ -1,0 +1,7 @@
+pub mod Frame
+pub mod Answer
+pub mod Demand1
+pub mod Long
+pub mod PackLaws
+pub mod Boundary
+pub mod BoundaryProof

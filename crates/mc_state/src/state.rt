@@ -1,0 +1,31 @@
+// The state before the first frame, and what a frame makes of it.
+ghost use mathlib.Core.Path.{_≡_};
+ghost use Rattle.mc_state.specs.Frame.{fresh, oneMore};
+use crate::McDecodeState;
+
+impl McDecodeState {
+    // Places of the history: nine for each subband of two base channels.
+    pub const PRED_HISTORY: usize = 576;
+
+    // A fresh state.
+    pub fn new() -> McDecodeState
+        ensures { λ r. ⌜ r ≡ fresh ⌝ }
+    {
+        McDecodeState {
+            pred_hist: [0.0; 576],
+            layout_len: 0,
+            accepted: 0,
+        }
+    }
+}
+
+// The number of accepted frames after one more.
+pub fn one_more(accepted: u32) -> u32
+    ensures { λ r. ⌜ r ≡ oneMore accepted ⌝ }
+{
+    if accepted < 4294967295 {
+        accepted + 1
+    } else {
+        4294967295
+    }
+}

@@ -1,0 +1,2 @@
+pub mod OneToOne
+pub mod Bounds
