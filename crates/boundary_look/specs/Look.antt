@@ -6,7 +6,7 @@ use lib.Dec.{eqb}
 use lib.Ieee.{Float, nan, binary64, ofBits, eq}
 use lib.ListN.{length, getD}
 use Rattle.floats.specs.Binary64.{_⊘_, zero64}
-use Rattle.mc_payload.specs.Unpack.{each}
+use Rattle.fill.specs.Each.{each}
 
 -- equal, and zeros of the same sign; a NaN is the same as nothing
 unfoldable pub same : Float → Float → Bool

@@ -1,27 +1,15 @@
 -- One turn of each loop of src/look.rt, and each return.
-use mathlib.Core.Path.{_≡_, refl, sym, ap, _∙_}
+use mathlib.Core.Path.{_≡_, sym, _∙_}
 use mathlib.Core.Bool.{Bool, true, false, _&&_, and-assoc}
 use mathlib.Core.List.{List}
 use Prim.Native.Nat.{ℕ, suc, _+_, _-_, _*_, _/_, _%_, _≤_, _<_}
-use native.Mathlib.Numerals.{add-one}
 use native.Mathlib.Omega.{arith}
 use lib.Ieee.{Float, nan}
 use lib.ListN.{length, getD}
 use borrow.Author.Tests.{eq-eqb, ne-eqb}
-use Rattle.mc_payload.specs.Unpack.{each}
+use Rattle.fill.specs.Each.{each}
+use Rattle.fill.specs.EachLaws.{each-next}
 use Rattle.boundary_look.specs.Look.{same, sameValues, storedAt, zerosAt, basesAt, heldOf, heldUntil}
-
-pub each-none : (test : ℕ → Bool) → true ≡ each test 0
-unfolding each
-each-none test = refl
-
--- one test more
-pub each-next : (test : ℕ → Bool) (k : ℕ) (are b : Bool) → are ≡ each test k → b ≡ test k → are && b ≡ each test (k + 1)
-unfolding each
-each-next test k are b e q = rw (add-one k, e, q)
-
-pub each-all : (test : ℕ → Bool) (k n : ℕ) (are : Bool) → are ≡ each test k → k ≤ n → n ≤ k → are ≡ each test n
-each-all test k n are e l h = let q : k ≡ n = omega arith in e ∙ ap (each test) q
 
 module _ (xs ys : List Float) where
   pub lengths-differ : (length xs ≡ length ys → ⊥) → false ≡ sameValues xs ys

@@ -1,7 +1,7 @@
 // What is looked at in buffers and state after a frame call.
 ghost use mathlib.Core.Path.{_≡_};
 ghost use Prim.Native.Nat.{_-_, _<_};
-ghost use Rattle.mc_payload.specs.Unpack.{each};
+ghost use Rattle.fill.specs.Each.{each};
 ghost use Rattle.boundary_look.specs.Look.{same as Look·same, allAre, sameValues, isStored, secondIsFirst, thirdIsSilent, heldOf, heldUntil};
 
 // The same bits: equal, and zeros of the same sign. A NaN is the same as nothing.

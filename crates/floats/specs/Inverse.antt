@@ -1,6 +1,6 @@
 -- To divide by a power of two is to multiply by its inverse, for any float: both round the same fraction.
 use mathlib.Core.Path.{_≡_, refl, sym, ap, ap₂, _∙_}
-use mathlib.Core.Bool.{Bool, true, false, _&&_}
+use mathlib.Core.Bool.{Bool, false, _&&_}
 use Prim.Native.Nat.{ℕ, zero, suc, _*_, _^_, _<_}
 use native.Mathlib.Nat.{mul-comm, one-mul}
 use native.Mathlib.Omega.{arith}

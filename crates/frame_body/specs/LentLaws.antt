@@ -18,7 +18,7 @@ use Rattle.mc_error.specs.declared.McError.{McError}
 use Rattle.mc_state.specs.Frame.{Lent, Buffers, After, frameOf}
 use Rattle.mc_state.specs.declared.McDecodeState.{McDecodeState}
 use Rattle.mc_head.specs.Answer.{outcomeOf}
-use Rattle.mc_head.specs.Lent.{headOf}
+use Rattle.mc_fields.specs.Lent.{headOf}
 use Rattle.mc_head.specs.declared.HeadAnswer.the-variants.{Accepted, Refused}
 use Rattle.mc_head.specs.declared.McHead.{McHead}
 use Rattle.frame_body.specs.Lent.{lentFrom, lentIn, layoutFor}

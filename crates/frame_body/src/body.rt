@@ -2,7 +2,7 @@
 ghost use mathlib.Core.Path.{_≡_};
 ghost use Rattle.mc_state.specs.Answer.{buffersFrom, afterOf};
 ghost use Rattle.mc_state.specs.Frame.{frameOf};
-ghost use Rattle.mc_head.specs.Lent.{headOf};
+ghost use Rattle.mc_fields.specs.Lent.{headOf};
 ghost use Rattle.frame_body.specs.Lent.{Whole, Cut, lentFrom, lentIn, layoutFor, stateOf};
 use frame_file::Numbers;
 use frame_file::fill_steps;

@@ -7,7 +7,7 @@ use lib.Ieee.{Float, binary64, ofBits}
 use lib.ListN.{length}
 use Rattle.encoding.specs.Encoding.{numberAt}
 use Rattle.frame_file.specs.declared.numbers.Numbers.{Numbers}
-use Rattle.frame_text.specs.Text.{ascii}
+use Rattle.fill.specs.Ascii.{ascii}
 
 -- ---- the opening
 

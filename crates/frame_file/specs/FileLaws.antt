@@ -3,7 +3,7 @@ use mathlib.Core.Path.{_≡_, refl}
 use mathlib.Core.Bool.{Bool, true, false, cond}
 use mathlib.Core.List.{List}
 use mathlib.Core.Logic.{⊎-elim}
-use Prim.Native.Nat.{ℕ, suc, _-_, _≤_, _<_}
+use Prim.Native.Nat.{ℕ, suc, _≤_, _<_}
 use native.Mathlib.Nat.{eq-zero-or-pos}
 use native.Mathlib.Omega.{arith}
 use borrow.Author.Tests.{ltb-false, eqb-false, lt-ltb, le-ltb, eq-eqb, ne-eqb}
@@ -14,7 +14,7 @@ use mir.Val.{Fits}
 use Rattle.encoding.specs.Encoding.{lowestFirst, numberAt}
 use Rattle.fill.specs.Tab.{tab}
 use Rattle.frame_file.specs.declared.numbers.Numbers.{Numbers}
-use Rattle.frame_text.specs.Text.{ascii}
+use Rattle.fill.specs.Ascii.{ascii}
 use Rattle.frame_file.specs.File.{openingFault, faultOf}
 
 -- ---- numbers

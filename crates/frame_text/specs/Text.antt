@@ -2,20 +2,14 @@
 use mathlib.Core.Path.{_≡_}
 use mathlib.Core.Bool.{cond}
 use mathlib.Core.List.{List}
-use Prim.Native.Char.{code}
 use Prim.Native.Nat.{ℕ, _≤_}
-use Prim.Native.String.{String, len, charAt}
 use lib.Dec.{eqb}
 use lib.ListN.{length, take}
-use Rattle.fill.specs.Tab.{tab}
+use Rattle.fill.specs.Ascii.{ascii}
 use Rattle.mc_config.specs.Config.{left, right, centre, leftSurround, rightSurround, monoSurround, secondLeft}
 use Rattle.mc_error.specs.declared.McError.{McError}
 use Rattle.mc_error.specs.declared.McError.the-variants.{UnexpectedEnd, ForbiddenDynCrossMode, MlLayer3Unsupported, ReservedScalefactor, ConfigChanged, InvalidArgument, ValueOutOfRange, InvalidAllocation}
 use Rattle.frame_text.specs.declared.text.Text.{Text}
-
--- the codes of a text's letters, a byte each
-unfoldable pub ascii : String → List ℕ
-ascii s = tab (λ i. code (charAt s i)) (len s)
 
 -- the first bytes of t are s, and so many are said
 pub record Spells (t : Text) (s : List ℕ) : Type 0 where

@@ -11,7 +11,8 @@ use Rattle.fill.specs.Tab.{tab}
 use Rattle.fill.specs.TabLaws.{length-tab, getD-tab}
 use Rattle.fill.specs.InOrder.{Filling, ends}
 use Rattle.frame_text.specs.declared.text.Text.{Text}
-use Rattle.frame_text.specs.Text.{ascii, Spells, nameOf}
+use Rattle.fill.specs.Ascii.{ascii}
+use Rattle.frame_text.specs.Text.{Spells, nameOf}
 
 -- a list by its elements
 pub tab-elements : {A : Type 0} (z : A) (xs : List A) → tab (λ k. getD xs k z) (length xs) ≡ xs

@@ -1,12 +1,11 @@
 -- Each way through a frame from its payload on leaves what the definition says.
-use mathlib.Core.Path.{_≡_, refl, sym, ap, _∙_}
+use mathlib.Core.Path.{_≡_, sym, _∙_}
 use mathlib.Core.Bool.{Bool, true, false, not, cond}
 use mathlib.Core.List.{List}
-use Prim.Native.Nat.{ℕ, _≤_, _<_}
+use Prim.Native.Nat.{ℕ, _≤_}
 use native.Mathlib.Omega.{arith}
 use borrow.Author.Tests.{eq-eqb, ne-eqb, not-true, not-false}
 use lib.Ieee.{Float}
-use lib.ListN.{length}
 use mir.Val.{Fits}
 use mir.Syntax.{w8}
 use Rattle.mc_config.specs.Config.{configOf}
@@ -24,7 +23,7 @@ use Rattle.mc_unpack.specs.Settled.{settledOf, Numbered}
 use Rattle.mc_unpack.specs.SettledLaws.{Writable, settled-numbered, settled-writable}
 use Rattle.mc_payload.specs.Record.{rawOf, lfeOf, recordOf}
 use Rattle.mc_payload.specs.Unpack.{allocationsFit, payloadOf, Loan, settingsOf}
-use Rattle.mc_payload.specs.Demand3.Widths.{Fitting, codes-fit}
+use Rattle.mc_payload.specs.Demand3.Widths.{codes-fit}
 use Rattle.mc_scale.specs.Scale.{Base, scaledBase}
 use Rattle.mc_finish.specs.Output.{channels, workOf, outputOf, historyAt, historyOf}
 use Rattle.mc_finish.specs.Finish.{BaseFits}

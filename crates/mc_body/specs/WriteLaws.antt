@@ -1,12 +1,12 @@
 -- What an accepted payload brings for the writers of its frame, and that they write what the definition says.
-use mathlib.Core.Path.{_≡_, refl, sym, ap, _∙_}
+use mathlib.Core.Path.{_≡_, refl, ap, _∙_}
 use mathlib.Core.Bool.{true}
 use mathlib.Core.List.{List, []}
-use Prim.Native.Nat.{ℕ, _+_, _*_, _/_, _%_, _^_, _≤_, _<_}
+use Prim.Native.Nat.{ℕ, _+_, _*_, _%_, _^_, _≤_, _<_}
 use native.Mathlib.Omega.{arith}
 use lib.Dec.{ltb}
 use lib.Ieee.{Float}
-use lib.ListN.{length, getD}
+use lib.ListN.{getD}
 use Rattle.fill.specs.TabLaws.{length-tab, getD-tab}
 use Rattle.mc_fields.specs.BitsIfLaws.{if-below}
 use Rattle.mc_payload.specs.declared.McSettings.{McSettings}
@@ -15,7 +15,7 @@ use Rattle.mc_places.specs.declared.places.Places.{Places}
 use Rattle.mc_codes.specs.Outcome.{codesOf}
 use Rattle.mc_payload.specs.Payload.{Codes}
 use Rattle.mc_places.specs.PlacesBy.{placesOf}
-use Rattle.mc_payload.specs.Record.{Record, rawOf, lfeOf, delaysOf, coefsOf, recordOf}
+use Rattle.mc_payload.specs.Record.{Record, rawOf, lfeOf, recordOf}
 use Rattle.mc_unpack.specs.RecordLaws.{raw-record, lfe-record, delays-record, coefs-record}
 use Rattle.mc_unpack.specs.SettledLaws.{Writable, own-table}
 use Rattle.mc_payload.specs.Unpack.{stepsFit}

@@ -1,7 +1,7 @@
 // Writes the buffers of an accepted frame.
 ghost use mathlib.Core.Path.{_≡_};
-ghost use Prim.Native.Nat.{ℕ, _*_, _≤_, _<_};
-ghost use lib.ListN.{length, getD};
+ghost use Prim.Native.Nat.{_≤_, _<_};
+ghost use lib.ListN.{length};
 ghost use Rattle.mc_codes.specs.Outcome.{codesOf};
 ghost use Rattle.mc_places.specs.PlacesBy.{placesOf};
 ghost use Rattle.mc_payload.specs.Record.{rawOf, lfeOf, recordOf};

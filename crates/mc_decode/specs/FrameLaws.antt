@@ -1,17 +1,14 @@
 -- What a tested loan brings, and that each way through a frame call leaves what the definition says.
-use mathlib.Core.Path.{_≡_, refl, sym, ap, _∙_}
-use mathlib.Core.Bool.{Bool, true, false, not, _&&_, cond}
-use mathlib.Core.List.{List}
+use mathlib.Core.Path.{_≡_, sym, _∙_}
+use mathlib.Core.Bool.{Bool, true, false, not}
 use Prim.Native.Nat.{ℕ, _≤_}
 use borrow.Author.Tests.{eqb-true, leb-true, not-true, not-false}
 use lib.Dec.{eqb, leb}
 use lib.ListN.{length}
-use Rattle.bits.specs.Syntax.{accepted, refused}
-use Rattle.mc_error.specs.Error.{refusalOf}
 use Rattle.mc_error.specs.declared.McError.{McError}
 use Rattle.mc_error.specs.declared.McError.the-variants.{InvalidArgument, ValueOutOfRange}
 use Rattle.mc_head.specs.Answer
-use Rattle.mc_head.specs.Lent.{stringFits, baseFits, headOf}
+use Rattle.mc_fields.specs.Lent.{stringFits, baseFits, headOf}
 use Rattle.mc_head.specs.declared.HeadAnswer.the-variants.{Accepted as HeadAccepted, Refused as HeadRefused}
 use Rattle.mc_head.specs.declared.McHead.{McHead}
 use Rattle.mc_payload.specs.Unpack.{rateFits, loanFits, settingsOf, loanBy}

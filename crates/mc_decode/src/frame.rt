@@ -1,12 +1,8 @@
 // The frame call on a state by value: what is lent is tested, then the head is read, then the payload, and only then is anything written.
 ghost use mathlib.Core.Path.{_≡_};
-ghost use Prim.Native.Nat.{_≤_};
-ghost use Rattle.mc_payload.specs.Unpack.{loanBy, settingsOf};
-ghost use Rattle.mc_finish.specs.Output.{channels};
 ghost use Rattle.mc_finish.specs.Finish.{baseFrom};
 ghost use Rattle.mc_state.specs.Answer.{lentOf, buffersFrom, afterOf};
-ghost use Rattle.mc_state.specs.Frame.{follows, afterUnpacked, frameOf};
-ghost use Rattle.mc_state.specs.Long.{Long};
+ghost use Rattle.mc_state.specs.Frame.{frameOf};
 use mc_body::unpacked_frame;
 use mc_error::McError;
 use mc_head::HeadAnswer;

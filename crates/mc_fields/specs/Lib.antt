@@ -7,3 +7,5 @@ pub mod HeadYields
 pub mod HeadRecovers
 pub mod HeadWidth
 pub mod LongestHead
+pub mod Lent
+pub mod LentLaws

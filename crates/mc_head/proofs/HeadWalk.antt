@@ -22,8 +22,8 @@ use Rattle.mc_error.specs.declared.McError.the-variants.{UnexpectedEnd, Forbidd
 use Rattle.mc_head.specs.Answer.{valuesOf, outcomeOf, noHead, valuesAfter}
 use Rattle.mc_fields.specs.Head.{mcHeader, mcErrorCheck, modeAt, firstForbidden, checkModes, mcCompositeStatusInfo, head}
 use Rattle.mc_fields.specs.HeadYields.{head-refused}
-use Rattle.mc_head.specs.Lent.{stringFits, baseFits, headOf}
-use Rattle.mc_head.specs.LentLaws.{lent-fits}
+use Rattle.mc_fields.specs.Lent.{stringFits, baseFits, headOf}
+use Rattle.mc_fields.specs.LentLaws.{lent-fits}
 use Rattle.mc_head.specs.declared.HeadAnswer.the-variants.{Accepted, Refused}
 use Rattle.mc_head.specs.declared.McHead.{McHead}
 use Rattle.mc_fields.specs.declared.McStatus.{McStatus}

@@ -1,4 +1,2 @@
-pub mod Lent
 pub mod Answer
-pub mod LentLaws
 pub mod AnswerLaws

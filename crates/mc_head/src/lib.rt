@@ -4,14 +4,16 @@ ghost use Rattle.cursor.specs.Cursor.{runFrom};
 ghost use Rattle.bits.specs.Syntax.{run};
 ghost use Rattle.mc_head.specs.Answer.{outcomeOf, valuesOf, noHead, valuesAfter};
 ghost use Rattle.mc_fields.specs.Head.{checkModes, head};
-ghost use Rattle.mc_head.specs.Lent.{stringFits, baseFits, headOf};
+ghost use Rattle.mc_fields.specs.Lent.{headOf};
 use cursor::Cursor;
 use cursor::read;
 use mc_config::McConfig;
 use mc_config::McHeader;
 use mc_error::McError;
 use mc_fields::McStatus;
+use mc_fields::base_fits;
 use mc_fields::read_mc_header;
+use mc_fields::string_fits;
 use mc_status::first_forbidden;
 use mc_status::read_status;
 
@@ -61,23 +63,6 @@ impl McHead {
             },
         }
     }
-}
-
-// The most bytes of a string.
-pub const MAX_STRING_BYTES: usize = 8192;
-
-// At most as many bytes, and no more bits than they hold.
-pub fn string_fits(bytes: &[u8], bits: usize) -> bool
-    ensures { λ r. ⌜ r ≡ stringFits (now (bytes .entry)) bits ⌝ }
-{
-    bytes.len() <= MAX_STRING_BYTES && bits <= 8 * bytes.len()
-}
-
-// One or two base channels.
-pub fn base_fits(base_channels: u8) -> bool
-    ensures { λ r. ⌜ r ≡ baseFits «base_channels» ⌝ }
-{
-    base_channels == 1 || base_channels == 2
 }
 
 // The fields of a head up to its last bit, and its front and surround as one number.

@@ -1,15 +1,16 @@
 -- Unpacking a payload string: what is lent is checked (refusal 6), then the allocations (8), then the payload is read (1, 3, 4).
 use mathlib.Core.Bool.{Bool, _&&_, _||_, cond}
 use mathlib.Core.List.{List}
-use Prim.Native.Nat.{ℕ, zero, suc, _+_, _*_, _/_, _%_}
+use Prim.Native.Nat.{ℕ, _+_, _*_, _/_, _%_}
 use lib.Dec.{eqb, leb}
 use lib.ListN.{length, getD}
 use Rattle.bits.specs.Syntax.{Syntax, Outcome, plain, refused, run}
+use Rattle.fill.specs.Each.{each}
 use Rattle.fill.specs.Tab.{tab}
 use Rattle.bitalloc.specs.Classes.{isClass}
 use Rattle.mc_config.specs.declared.McHeader.{McHeader}
 use Rattle.mc_fields.specs.declared.McStatus.{McStatus}
-use Rattle.mc_head.specs.Lent.{stringFits, baseFits}
+use Rattle.mc_fields.specs.Lent.{stringFits, baseFits}
 use Rattle.mc_payload.specs.declared.McSettings.{McSettings}
 use Rattle.mc_payload.specs.Places.{transmitted, stepsOf, ownOf}
 use Rattle.mc_payload.specs.Payload.{Codes, payload}
@@ -20,11 +21,6 @@ rateFits rate = eqb rate 48000 || (eqb rate 44100 || eqb rate 32000)
 -- a step count: 0 or one of the 17
 abbrev pub stepsFit : ℕ → Bool
 stepsFit n = eqb n 0 || isClass n
-
--- the test holds of each of the first n numbers
-unfoldable pub each : (ℕ → Bool) → ℕ → Bool
-each test zero = Bool.true
-each test (suc n) = each test n && test n
 
 -- rate, base channel count, LFE allocation, step counts' number, and base step counts are as document 01 says
 unfoldable pub loanFits : ℕ → ℕ → ℕ → List ℕ → List ℕ → Bool

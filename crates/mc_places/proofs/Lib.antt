@@ -1,2 +1,1 @@
 pub mod PlacesBuilt
-pub mod LoanTested

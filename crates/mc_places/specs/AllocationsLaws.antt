@@ -1,68 +1,24 @@
 -- The tests of step counts as the code makes them are those of the definition.
-use mathlib.Core.Path.{_≡_, refl, sym, ap₂, _∙_}
-use mathlib.Core.Bool.{Bool, true, false, not, _&&_, _||_, cond}
+use mathlib.Core.Path.{_≡_, refl, sym}
+use mathlib.Core.Bool.{Bool, true, false, not, _&&_, _||_, cond, and-true, and-false}
 use mathlib.Core.List.{List}
-use mathlib.Core.Logic.{⊎-elim}
-use Prim.Native.Nat.{ℕ, zero, suc, _+_, _*_, _/_, _%_, _≤_, _<_}
-use native.Mathlib.Nat.{eq-or-lt-of-le, le-antisymm, le-of-suc-le-suc}
-use native.Mathlib.Numerals.{add-one}
+use Prim.Native.Nat.{ℕ, _+_, _*_, _/_, _%_, _<_}
 use native.Mathlib.Omega.{arith}
 use lib.Dec.{eqb, ltb}
 use lib.ListN.{getD}
-use borrow.Author.Tests.{eq-eqb, ne-eqb, not-true, not-false}
+use borrow.Author.Tests.{eq-eqb, ne-eqb}
 use Rattle.fill.specs.TabLaws.{getD-tab}
 use Rattle.bitalloc.specs.Classes.{classIndex, isClass}
 use Rattle.mc_payload.specs.declared.McSettings.{McSettings}
 use Rattle.mc_payload.specs.Places.{transmitted, ownAt, place, ownOf}
-use Rattle.mc_payload.specs.Unpack.{stepsFit, each, allocationFits, allocationsFit}
+use Rattle.fill.specs.Each.{each}
+use Rattle.mc_payload.specs.Unpack.{allocationFits, allocationsFit}
+use Rattle.fill.specs.EachLaws.{each-same}
 use Rattle.mc_places.specs.PlacesBy.{allocationBy, allocationAt}
-
--- ---- a test of each of the first n numbers
-
-pub each-none : (test : ℕ → Bool) → each test 0 ≡ true
-unfolding each
-each-none test = refl
-
-each-more : (test : ℕ → Bool) (n : ℕ) → each test n ≡ true → test n ≡ true → each test (n + 1) ≡ true
-unfolding each
-each-more test n e t = rw (add-one n, e, t)
-
-and-false : (b : Bool) → (b && false) ≡ false
-and-false true = refl
-and-false false = refl
-
-and-true : (b : Bool) → (b && true) ≡ b
-and-true true = refl
-and-true false = refl
-
-each-fails : (test : ℕ → Bool) (n k : ℕ) → k < n → test k ≡ false → each test n ≡ false
-unfolding each
-each-fails test zero k h t = absurd (omega arith)
-each-fails test (suc n) k h t =
-    ⊎-elim (λ e. rw (← e, t) (and-false (each test k))) (λ l. rw (each-fails test n k l t)) (eq-or-lt-of-le (le-of-suc-le-suc h))
-
-each-same : (f g : ℕ → Bool) (n : ℕ) → ((k : ℕ) → k < n → f k ≡ g k) → each f n ≡ each g n
-unfolding each
-each-same f g zero h = refl
-each-same f g (suc n) h = ap₂ _&&_ (each-same f g n (λ k l. h k (omega arith))) (h n (omega arith))
-
--- the same of a loop that leaves at the first number that fails; b is the test's answer
-module _ (test : ℕ → Bool) (n k : ℕ) where
-  pub each-left : k < n → (b : Bool) → b ≡ test k → not b ≡ true → false ≡ each test n
-  each-left h b e t = sym (each-fails test n k h (sym e ∙ not-true b t))
-
-  pub each-on : each test k ≡ true → (b : Bool) → b ≡ test k → not b ≡ false → each test (k + 1) ≡ true
-  each-on h b e t = each-more test k h (sym e ∙ not-false b t)
-
-  pub each-all : k ≤ n → n ≤ k → each test k ≡ true → each test n ≡ true
-  each-all h l e = rw (le-antisymm l h) e
 
 -- ---- one step count
 
 module _ (n i : ℕ) (e : i ≡ classIndex n) (h : n ≡ 0 → ⊥) where
-  pub steps-class : ltb i 17 ≡ stepsFit n
-  steps-class = rw (ne-eqb n 0 h, e)
-
   pub allocation-class : (own : ℕ) → (own ≡ 0 → ⊥) → ltb i 17 ≡ allocationBy n own
   unfolding allocationBy
   allocation-class own z = rw (ne-eqb n 0 h, ne-eqb own 0 z, e) (sym (and-true (isClass n)))

@@ -1,11 +1,8 @@
 // Before a payload is read: the test of what is lent, the places that carry samples with their sources, and the test of the allocations.
 
 mod allocations;
-mod loan;
 mod places;
 
 pub use allocations::allocations_fit;
-pub use loan::loan_fits;
-pub use loan::settings;
 pub use places::Places;
 pub use places::places_of;

@@ -3,8 +3,6 @@ ghost use mathlib.Core.Path.{_≡_};
 ghost use mathlib.Core.Bool.{true};
 ghost use Prim.Native.Nat.{ℕ, _+_, _*_, _/_, _%_, _^_, _≤_, _<_};
 ghost use lib.ListN.{length, getD};
-ghost use Rattle.fill.specs.Tab.{tab};
-ghost use Rattle.floats.specs.Binary64.{zero64};
 ghost use Rattle.bitalloc.specs.Classes.{isClass};
 ghost use Rattle.mc_payload.specs.Unpack.{stepsFit};
 ghost use Rattle.mc_values.specs.Values.{threeCodes, threeValues, rawBy, rawFrom, lfeBy, lfeFrom, spread, ValuesFit, PlaceFits, SamplesFit, LfeFits};

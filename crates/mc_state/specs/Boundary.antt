@@ -3,7 +3,7 @@ use mathlib.Core.Bool.{Bool, true, false}
 use mathlib.Core.Path.{_≡_}
 use mathlib.Core.List.{List, [], _∷_}
 use Prim.Native.Nat.{ℕ, _+_, _-_, _*_}
-use lib.Ieee.{Float, nan, binary64, neg, ofBits}
+use lib.Ieee.{Float, nan, neg}
 use lib.ListN.{getD}
 use Rattle.floats.specs.Binary64.{zero64}
 use Rattle.floats.specs.Decimal.{decimal}

@@ -1,6 +1,6 @@
 -- Every row of the table of boundary frames holds: a row follows from a test, and the tests are computed over the whole table.
-use mathlib.Core.Bool.{Bool, true, false, _&&_, Bool·beq, cond}
-use mathlib.Core.Path.{_≡_, refl, ap, ap₂, _∙_}
+use mathlib.Core.Bool.{Bool, true, false, _&&_, Bool·beq}
+use mathlib.Core.Path.{_≡_, refl, ap₂}
 use mathlib.Core.List.{List, [], _∷_}
 use Prim.Native.Nat.{ℕ, _+_, _-_, _*_}
 use lib.Dec.{T, eqb, eqb→eq, ltb}

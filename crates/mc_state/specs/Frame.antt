@@ -1,7 +1,7 @@
 -- One frame call: the refusal in document 01's order or the accepted frame, and what every buffer and the state hold afterwards.
 use mathlib.Core.Bool.{Bool, _&&_, _||_, cond}
 use mathlib.Core.List.{List}
-use Prim.Native.Nat.{ℕ, _+_, _*_}
+use Prim.Native.Nat.{ℕ, _+_}
 use lib.Dec.{eqb, ltb, leb}
 use lib.Ieee.{Float, nan, binary64, ofBits, neg, le}
 use lib.ListN.{length, getD, replicate}
@@ -9,11 +9,12 @@ use Rattle.floats.specs.Binary64.{zero64}
 use Rattle.bits.specs.Syntax.{Refusal, plain, Outcome, accepted, refused}
 use Rattle.mc_config.specs.declared.McHeader.{McHeader}
 use Rattle.mc_fields.specs.declared.McStatus.{McStatus}
-use Rattle.mc_head.specs.Lent.{stringFits, headOf}
+use Rattle.mc_fields.specs.Lent.{stringFits, headOf}
 use Rattle.mc_payload.specs.declared.McSettings.{McSettings}
 use Rattle.mc_payload.specs.Payload.{Codes}
 use Rattle.mc_payload.specs.Record.{recordOf}
-use Rattle.mc_payload.specs.Unpack.{settingsOf, loanFits, each, loanBy}
+use Rattle.fill.specs.Each.{each}
+use Rattle.mc_payload.specs.Unpack.{settingsOf, loanFits, loanBy}
 use Rattle.mc_unpack.specs.Settled.{settledOf}
 use Rattle.mc_scale.specs.Scale.{Base}
 use Rattle.mc_finish.specs.Output.{workOf, outputOf, historyOf, channels}

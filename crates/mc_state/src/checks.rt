@@ -1,11 +1,10 @@
 // What a frame call checks before it reads a bit.
 ghost use mathlib.Core.Path.{_≡_};
-ghost use lib.ListN.{length};
 ghost use Rattle.mc_finish.specs.Finish.{baseFrom};
 ghost use Rattle.mc_state.specs.Answer.{lentOf};
 ghost use Rattle.mc_state.specs.Frame.{rightLength, valuesLong, roomFits, lentBy, allFit, valuesFit};
-use mc_head::string_fits;
-use mc_places::loan_fits;
+use mc_fields::string_fits;
+use mc_loan::loan_fits;
 
 // Whether each value is within -4 to 4; not a number is not.
 pub fn all_fit(xs: &[f64]) -> bool

@@ -7,7 +7,7 @@ ghost use Rattle.cursor.specs.Ran.{Ran};
 ghost use Rattle.bits.specs.Syntax.{times};
 ghost use Rattle.mc_config.specs.Config.{pairOf};
 ghost use Rattle.mc_crosstalk.specs.Crosstalk.{predictorsOf};
-ghost use Rattle.mc_fields.specs.Head.{bitsIf, tcAllocation, dynCross, modeAt, predsiAt, prediction, firstForbidden, checkModes, mcCompositeStatusInfo};
+ghost use Rattle.mc_fields.specs.Head.{tcAllocation, dynCross, modeAt, predsiAt, prediction, firstForbidden, checkModes, mcCompositeStatusInfo};
 use cursor::Cursor;
 use cursor::read;
 use mc_config::McConfig;

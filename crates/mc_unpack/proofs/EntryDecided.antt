@@ -6,7 +6,7 @@ use Prim.Native.Nat.{ℕ, _≤_}
 use native.Mathlib.Omega.{arith}
 use borrow.Author.Tests.{eq-eqb, ne-eqb, not-true, not-false}
 use Rattle.bits.specs.Syntax.{plain, refused}
-use Rattle.mc_head.specs.Lent.{stringFits}
+use Rattle.mc_fields.specs.Lent.{stringFits}
 use Rattle.mc_payload.specs.declared.McSettings.{McSettings}
 use Rattle.mc_unpack.specs.declared.entry.McPayload.{McPayload}
 use Rattle.mc_places.specs.PlacesBy.{placesOf}

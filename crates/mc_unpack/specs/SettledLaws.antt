@@ -10,7 +10,7 @@ use lib.ListN.{getD}
 use borrow.Author.Tests.{eqb-false, not-true, not-false}
 use Rattle.bits.specs.Syntax.{Refusal, plain, Outcome, accepted, refused, run}
 use Rattle.bits.specs.Yields.{accepted-yields, refused-yields}
-use Rattle.mc_head.specs.Lent.{stringFits}
+use Rattle.mc_fields.specs.Lent.{stringFits}
 use Rattle.mc_payload.specs.declared.McSettings.{McSettings}
 use Rattle.mc_codes.specs.declared.payload.PayloadCodes.{PayloadCodes}
 use Rattle.mc_places.specs.declared.places.Places.{Places}

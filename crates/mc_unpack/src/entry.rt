@@ -14,12 +14,12 @@ use mc_codes::read_payload;
 use mc_config::McHeader;
 use mc_error::McError;
 use mc_fields::McStatus;
+use mc_loan::loan_fits;
+use mc_loan::settings;
 use mc_payload::McSettings;
 use mc_places::Places;
 use mc_places::allocations_fit;
-use mc_places::loan_fits;
 use mc_places::places_of;
-use mc_places::settings;
 use mc_samples::write_lfe;
 use mc_samples::write_raw;
 
@@ -154,7 +154,7 @@ fn decide(
     if lfe_len != 12 {
         return McPayload::refused(6);
     }
-    if !mc_head::string_fits(bytes, bits) {
+    if !mc_fields::string_fits(bytes, bits) {
         return McPayload::refused(6);
     }
     if !loan_fits(rate, base_channels, lfe_allocation, nb_steps, base_nb_steps) {

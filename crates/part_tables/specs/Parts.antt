@@ -7,7 +7,7 @@ use lib.ListN.{getD}
 use Rattle.bits.specs.Syntax.{Refusal, Outcome, accepted, refused, plain}
 use Rattle.fill.specs.Tab.{tab}
 use Rattle.mc_config.specs.declared.McHeader.{McHeader}
-use Rattle.mc_head.specs.Lent.{headOf}
+use Rattle.mc_fields.specs.Lent.{headOf}
 use Rattle.mc_fields.specs.declared.McStatus.{McStatus}
 
 abbrev pub flag : Bool → ℕ

@@ -7,7 +7,7 @@ use lib.Ieee.{Float, nan}
 use lib.ListN.{length, getD}
 use Rattle.bits.specs.Syntax.{plain, Outcome, accepted, refused}
 use Rattle.fill.specs.Tab.{tab}
-use Rattle.mc_head.specs.Lent.{stringFits, headOf}
+use Rattle.mc_fields.specs.Lent.{stringFits, headOf}
 use Rattle.mc_payload.specs.Unpack.{loanBy, loanFits, settingsOf, unpackOf}
 use Rattle.mc_payload.specs.Payload.{Codes}
 use Rattle.mc_payload.specs.Record.{lfScalefactorOf, recordOf}

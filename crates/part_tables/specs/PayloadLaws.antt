@@ -12,7 +12,7 @@ use Rattle.mc_error.specs.Error.{refusalOf}
 use Rattle.mc_error.specs.declared.McError.{McError}
 use Rattle.mc_error.specs.declared.McError.the-variants.{InvalidArgument}
 use Rattle.mc_head.specs.Answer
-use Rattle.mc_head.specs.Lent.{stringFits, headOf}
+use Rattle.mc_fields.specs.Lent.{stringFits, headOf}
 use Rattle.mc_head.specs.declared.HeadAnswer.the-variants.{Accepted as HeadAccepted, Refused as HeadRefused}
 use Rattle.mc_head.specs.declared.McHead.{McHead}
 use Rattle.mc_unpack.specs.Answer as Unpacking

@@ -11,7 +11,7 @@ use Rattle.mc_config.specs.declared.McHeader.{McHeader}
 use Rattle.mc_error.specs.Error.{refusalOf}
 use Rattle.mc_error.specs.declared.McError.{McError}
 use Rattle.mc_head.specs.Answer.{outcomeOf}
-use Rattle.mc_head.specs.Lent.{headOf}
+use Rattle.mc_fields.specs.Lent.{headOf}
 use Rattle.mc_head.specs.declared.HeadAnswer.the-variants.{Accepted, Refused}
 use Rattle.mc_head.specs.declared.McHead.{McHead}
 use Rattle.mc_fields.specs.declared.McStatus.{McStatus}

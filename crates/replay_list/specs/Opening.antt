@@ -4,7 +4,7 @@ use mathlib.Core.List.{List, [], _∷_}
 use Prim.Native.Nat.{ℕ, _+_, _*_, _%_}
 use lib.Dec.{eqb}
 use lib.Ieee.{Float}
-use lib.ListN.{length, getD}
+use lib.ListN.{getD}
 use Rattle.encoding.specs.Encoding.{numberAt}
 use Rattle.fill.specs.Tab.{tab}
 use Rattle.mc_finish.specs.Finish.{baseFrom}

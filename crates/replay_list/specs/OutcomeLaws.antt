@@ -1,7 +1,6 @@
 -- A flag as a number.
 use mathlib.Core.Path.{_≡_, refl}
 use mathlib.Core.Bool.{Bool, true, false, cond}
-use Prim.Native.Nat.{ℕ}
 use mir.Val.{boolByte}
 
 pub flag-byte : (b : Bool) → boolByte b ≡ cond b 1 0

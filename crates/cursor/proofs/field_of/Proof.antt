@@ -1,7 +1,6 @@
--- `bits::field_of` meets its contract.
-use mathlib.Core.Path.{_≡_}
-use Prim.Native.Nat.{ℕ, _/_, _%_, _^_, _≤_, _<_}
-use native.Mathlib.Nat.{lt-of-lt-of-le, mod-lt}
+-- `cursor::field_of` meets its contract.
+use Prim.Native.Nat.{ℕ, _%_, _^_, _≤_, _<_}
+use native.Mathlib.Nat.{mod-lt}
 use lib.Pow.{pow-pos, pow-mono}
 use Rattle.cursor.proofs.Window.{one-shl-64}
 use native.Mathlib.Omega.{arith}

@@ -1,4 +1,4 @@
--- `bits::read` meets its contract.
+-- `cursor::read` meets its contract.
 use borrow.Author.Needs.{needs}
 use Rattle.cursor.proofs.Steps.{read-refused, read-value, read-short}
 use Rattle.cursor.proofs.read.Statement.{statement}

@@ -1,4 +1,4 @@
--- `bits::read_three` meets its contract.
+-- `cursor::read_three` meets its contract.
 use native.Mathlib.Omega.{arith}
 use Rattle.cursor.specs.ThreeLaws.{value-two, three-window, three-read}
 use Rattle.cursor.proofs.Window.{word-small}

@@ -1,4 +1,4 @@
--- `bits::refuse_if` meets its contract.
+-- `cursor::refuse_if` meets its contract.
 use Rattle.cursor.proofs.Steps.{refuse-kept, refuse-bad, refuse-good}
 use Rattle.cursor.proofs.refuse_if.Statement.{statement}
 use Rattle.cursor.proofs.refuse_if.Tie as tie

@@ -1,4 +1,4 @@
--- `bits::word_at` meets its contract.
+-- `cursor::word_at` meets its contract.
 use Rattle.cursor.proofs.Window.{word-computed}
 use borrow.Author.Needs.{needs}
 use Rattle.cursor.proofs.word_at.Statement.{statement}

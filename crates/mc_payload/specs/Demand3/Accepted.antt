@@ -12,11 +12,12 @@ use borrow.Author.Tests.{leb-true, ne-eqb}
 use Rattle.bits.specs.Syntax.{Refusal, Outcome, accepted, refused, run}
 use Rattle.fill.specs.TabLaws.{getD-tab}
 use Rattle.bitalloc.specs.Classes.{isClass}
-use Rattle.mc_head.specs.Lent.{stringFits, baseFits}
+use Rattle.mc_fields.specs.Lent.{stringFits, baseFits}
 use Rattle.mc_payload.specs.declared.McSettings.{McSettings}
 use Rattle.mc_payload.specs.Places.{transmitted, stepsAt, ownAt, place, stepsOf, ownOf}
 use Rattle.mc_payload.specs.Payload.{Codes}
-use Rattle.mc_payload.specs.Unpack.{rateFits, each, loanFits, allocationFits, allocationsFit, payloadOf, Loan, settingsOf, unpackOf}
+use Rattle.fill.specs.Each.{each}
+use Rattle.mc_payload.specs.Unpack.{rateFits, loanFits, allocationFits, allocationsFit, payloadOf, Loan, settingsOf, unpackOf}
 
 -- ---- tests
 

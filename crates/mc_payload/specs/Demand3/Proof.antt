@@ -10,7 +10,7 @@ use borrow.Author.Tests.{leb-true, le-leb}
 use Rattle.bits.specs.SyntaxLaws.{within}
 use Rattle.bits.specs.Yields.{accepted-yields}
 use Rattle.bits.specs.Theorems.{UNIQUE, CUT-bits, CUT-bytes}
-use Rattle.mc_head.specs.Lent.{stringFits}
+use Rattle.mc_fields.specs.Lent.{stringFits}
 use Rattle.mc_payload.specs.declared.McSettings.{McSettings}
 use Rattle.mc_payload.specs.Payload.{Codes}
 use Rattle.mc_payload.specs.Unpack.{settingsOf, payloadOf}

@@ -19,7 +19,8 @@ use Rattle.mc_crosstalk.specs.Crosstalk.{T, sourcesOf, sources3}
 use Rattle.mc_fields.specs.Head.{countAt}
 use Rattle.mc_payload.specs.declared.McSettings.{McSettings}
 use Rattle.mc_payload.specs.Places.{carried, sourceAt, transmitted, stepsAt, ownAt, stepsOf, ownOf}
-use Rattle.mc_payload.specs.Unpack.{settingsOf, each, loanFits, allocationFits, allocationsFit}
+use Rattle.fill.specs.Each.{each}
+use Rattle.mc_payload.specs.Unpack.{settingsOf, loanFits, allocationFits, allocationsFit}
 use Rattle.mc_payload.specs.Demand3.Accepted.{Lent, steps-at, own-at}
 use Rattle.mc_payload.specs.Longest.{longest, longestLoan}
 use Rattle.mc_payload.specs.Longest.Bits.{scfsiBits, factorBits, predictorBits, sampleBits, payloadBits}

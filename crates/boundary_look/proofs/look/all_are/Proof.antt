@@ -1,13 +1,13 @@
--- `boundary::look::all_are` meets its contract: at k the flag is the test of the first k values.
+-- `boundary_look::look::all_are` meets its contract: at k the flag is the test of the first k values.
 use Prim.Native.Nat.{ℕ, _-_, _≤_}
 use mathlib.Core.Path.{_≡_}
 use native.Mathlib.Omega.{arith}
 use borrow.Author.Needs.{needs}
 use lib.Ieee.{nan}
 use lib.ListN.{length, getD}
-use Rattle.mc_payload.specs.Unpack.{each}
+use Rattle.fill.specs.Each.{each}
 use Rattle.boundary_look.specs.Look.{same}
-use Rattle.boundary_look.specs.LookLaws.{each-none, each-next, each-all}
+use Rattle.fill.specs.EachLaws.{each-start, each-next, each-end}
 use Rattle.boundary_look.proofs.look.all_are.Statement.{statement}
 use Rattle.boundary_look.proofs.look.all_are.Tie as tie
 
@@ -18,7 +18,7 @@ abbrev μ-loop : tie.MeasureT-loop
 μ-loop xs x are₀ k₀ are k = length xs - k
 
 loop-holds : tie.Need-loop-holds Inv-loop μ-loop
-loop-holds c = (omega arith, each-none _)
+loop-holds c = (omega arith, each-start _)
 
 mul-same : tie.Need-mul-same Inv-loop μ-loop
 mul-same c = omega arith
@@ -39,7 +39,7 @@ loop-again : tie.Need-loop-again Inv-loop μ-loop
 loop-again c = (omega arith, each-next _ _ _ _ (c .before .before .before .loop .inv .1) (c .same .ensures))
 
 returns : tie.Need-returns Inv-loop μ-loop
-returns c = each-all _ _ _ _ (c .before .loop .inv .1) (c .before .loop .inv .0) (omega arith)
+returns c = each-end _ _ _ _ (c .before .loop .inv .1) (c .before .loop .inv .0) (omega arith)
 
 pub all-are-spec : {M : Type 1} → statement M
 all-are-spec =

@@ -1,11 +1,12 @@
--- `boundary::look::held` meets its contract: before each slot the flags are the tests of the slots before it.
+-- `boundary_look::look::held` meets its contract: before each slot the flags are the tests of the slots before it.
 use Prim.Native.Nat.{_-_, _≤_}
 use mathlib.Core.Path.{_≡_, sym, _∙_}
 use native.Mathlib.Omega.{arith}
 use borrow.Author.Needs.{needs}
-use Rattle.mc_payload.specs.Unpack.{each}
+use Rattle.fill.specs.Each.{each}
 use Rattle.boundary_look.specs.Look.{zerosAt, basesAt}
-use Rattle.boundary_look.specs.LookLaws.{each-none, each-next, each-all, held-zeros, held-bases, held-others}
+use Rattle.fill.specs.EachLaws.{each-start, each-next, each-end}
+use Rattle.boundary_look.specs.LookLaws.{held-zeros, held-bases, held-others}
 use Rattle.boundary_look.proofs.look.held.Statement.{statement}
 use Rattle.boundary_look.proofs.look.held.Tie as tie
 
@@ -16,7 +17,7 @@ abbrev μ-loop : tie.MeasureT-loop
 μ-loop output base subband zeros₀ bases₀ slot₀ zeros bases slot = 36 - slot
 
 loop-holds : tie.Need-loop-holds Inv-loop μ-loop
-loop-holds c = (omega arith, each-none _, each-none _)
+loop-holds c = (omega arith, each-start _, each-start _)
 
 mul-k : tie.Need-mul-k Inv-loop μ-loop
 mul-k c = omega arith
@@ -66,17 +67,17 @@ loop-again c = (omega arith, each-next _ _ _ _ (c .before .before .before .befor
 returns : tie.Need-returns Inv-loop μ-loop
 returns c =
     let q = c .before .before .loop in
-    held-zeros _ _ _ (sym (each-all _ _ _ _ (q .inv .1) (q .inv .0) (omega arith)) ∙ c .if1 .taken)
+    held-zeros _ _ _ (sym (each-end _ _ _ _ (q .inv .1) (q .inv .0) (omega arith)) ∙ c .if1 .taken)
 
 returns-2 : tie.Need-returns-2 Inv-loop μ-loop
 returns-2 c =
     let q = c .before .before .before .loop in
-    held-bases _ _ _ (sym (each-all _ _ _ _ (q .inv .1) (q .inv .0) (omega arith)) ∙ c .before .if1 .left) (sym (each-all _ _ _ _ (q .inv .2) (q .inv .0) (omega arith)) ∙ c .if2 .taken)
+    held-bases _ _ _ (sym (each-end _ _ _ _ (q .inv .1) (q .inv .0) (omega arith)) ∙ c .before .if1 .left) (sym (each-end _ _ _ _ (q .inv .2) (q .inv .0) (omega arith)) ∙ c .if2 .taken)
 
 returns-3 : tie.Need-returns-3 Inv-loop μ-loop
 returns-3 c =
     let q = c .before .before .before .loop in
-    held-others _ _ _ (sym (each-all _ _ _ _ (q .inv .1) (q .inv .0) (omega arith)) ∙ c .before .if1 .left) (sym (each-all _ _ _ _ (q .inv .2) (q .inv .0) (omega arith)) ∙ c .if2 .left)
+    held-others _ _ _ (sym (each-end _ _ _ _ (q .inv .1) (q .inv .0) (omega arith)) ∙ c .before .if1 .left) (sym (each-end _ _ _ _ (q .inv .2) (q .inv .0) (omega arith)) ∙ c .if2 .left)
 
 pub held-spec : {M : Type 1} → statement M
 held-spec =

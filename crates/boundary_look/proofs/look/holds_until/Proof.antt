@@ -1,4 +1,4 @@
--- `boundary::look::holds_until` meets its contract: the search from the first subband is the search from here.
+-- `boundary_look::look::holds_until` meets its contract: the search from the first subband is the search from here.
 use Prim.Native.Nat.{_-_}
 use mathlib.Core.Path.{_≡_, refl, sym, _∙_}
 use native.Mathlib.Omega.{arith}

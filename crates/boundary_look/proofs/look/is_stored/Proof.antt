@@ -1,11 +1,12 @@
--- `boundary::look::is_stored` meets its contract: at k the flag is the test of the first k places of both halves.
+-- `boundary_look::look::is_stored` meets its contract: at k the flag is the test of the first k places of both halves.
 use Prim.Native.Nat.{_-_, _≤_}
 use mathlib.Core.Path.{_≡_}
 use native.Mathlib.Omega.{arith}
 use borrow.Author.Needs.{needs}
-use Rattle.mc_payload.specs.Unpack.{each}
+use Rattle.fill.specs.Each.{each}
 use Rattle.boundary_look.specs.Look.{storedAt}
-use Rattle.boundary_look.specs.LookLaws.{each-none, each-all, stored-next}
+use Rattle.fill.specs.EachLaws.{each-start, each-end}
+use Rattle.boundary_look.specs.LookLaws.{stored-next}
 use Rattle.boundary_look.proofs.look.is_stored.Statement.{statement}
 use Rattle.boundary_look.proofs.look.is_stored.Tie as tie
 
@@ -16,7 +17,7 @@ abbrev μ-loop : tie.MeasureT-loop
 μ-loop history left right are₀ k₀ are k = 288 - k
 
 loop-holds : tie.Need-loop-holds Inv-loop μ-loop
-loop-holds c = (omega arith, each-none _)
+loop-holds c = (omega arith, each-start _)
 
 add-j : tie.Need-add-j Inv-loop μ-loop
 add-j c = omega arith
@@ -70,7 +71,7 @@ loop-again : tie.Need-loop-again Inv-loop μ-loop
 loop-again c = (omega arith, let q = c .before .before .before .before .before .before .before in let a = q .before .args in stored-next (a .history .now) (a .left .now) (a .right .now) (q .loop .k) _ _ _ (c .before .before .before .before .before .before .before .loop .inv .1) (c .before .before .before .same .ensures) (c .same2 .ensures))
 
 returns : tie.Need-returns Inv-loop μ-loop
-returns c = each-all _ _ _ _ (c .before .loop .inv .1) (c .before .loop .inv .0) (omega arith)
+returns c = each-end _ _ _ _ (c .before .loop .inv .1) (c .before .loop .inv .0) (omega arith)
 
 pub is-stored-spec : {M : Type 1} → statement M
 is-stored-spec =

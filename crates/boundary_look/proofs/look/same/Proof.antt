@@ -1,4 +1,4 @@
--- `boundary::look::same` meets its contract.
+-- `boundary_look::look::same` meets its contract.
 use mathlib.Core.Path.{refl}
 use Rattle.boundary_look.specs.Look.{same}
 use Rattle.boundary_look.proofs.look.same.Statement.{statement}

@@ -1,13 +1,14 @@
--- `boundary::look::same_values` meets its contract: at k the flag is the test of the first k places.
+-- `boundary_look::look::same_values` meets its contract: at k the flag is the test of the first k places.
 use Prim.Native.Nat.{ℕ, _-_, _≤_}
 use mathlib.Core.Path.{_≡_}
 use native.Mathlib.Omega.{arith}
 use borrow.Author.Needs.{needs}
 use lib.Ieee.{nan}
 use lib.ListN.{length, getD}
-use Rattle.mc_payload.specs.Unpack.{each}
+use Rattle.fill.specs.Each.{each}
 use Rattle.boundary_look.specs.Look.{same}
-use Rattle.boundary_look.specs.LookLaws.{each-none, each-next, each-all, lengths-differ, lengths-agree}
+use Rattle.fill.specs.EachLaws.{each-start, each-next, each-end}
+use Rattle.boundary_look.specs.LookLaws.{lengths-differ, lengths-agree}
 use Rattle.boundary_look.proofs.look.same_values.Statement.{statement}
 use Rattle.boundary_look.proofs.look.same_values.Tie as tie
 
@@ -21,7 +22,7 @@ returns : tie.Need-returns Inv-loop μ-loop
 returns c = lengths-differ _ _ (c .if1 .taken)
 
 loop-holds : tie.Need-loop-holds Inv-loop μ-loop
-loop-holds c = (omega arith, each-none _)
+loop-holds c = (omega arith, each-start _)
 
 mul-same : tie.Need-mul-same Inv-loop μ-loop
 mul-same c = omega arith
@@ -48,7 +49,7 @@ loop-again : tie.Need-loop-again Inv-loop μ-loop
 loop-again c = (omega arith, each-next _ _ _ _ (c .before .before .before .before .loop .inv .1) (c .same .ensures))
 
 returns-2 : tie.Need-returns-2 Inv-loop μ-loop
-returns-2 c = lengths-agree _ _ (c .before .before .if1 .left) _ (each-all _ _ _ _ (c .before .loop .inv .1) (c .before .loop .inv .0) (omega arith))
+returns-2 c = lengths-agree _ _ (c .before .before .if1 .left) _ (each-end _ _ _ _ (c .before .loop .inv .1) (c .before .loop .inv .0) (omega arith))
 
 pub same-values-spec : {M : Type 1} → statement M
 same-values-spec =

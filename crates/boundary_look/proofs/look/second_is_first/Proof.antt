@@ -1,11 +1,11 @@
--- `boundary::look::second_is_first` meets its contract: at k the flag is the test of the first k values.
+-- `boundary_look::look::second_is_first` meets its contract: at k the flag is the test of the first k values.
 use Prim.Native.Nat.{_-_, _≤_}
 use mathlib.Core.Path.{_≡_}
 use native.Mathlib.Omega.{arith}
 use borrow.Author.Needs.{needs}
-use Rattle.mc_payload.specs.Unpack.{each}
+use Rattle.fill.specs.Each.{each}
 use Rattle.boundary_look.specs.Look.{secondIsFirst}
-use Rattle.boundary_look.specs.LookLaws.{each-none, each-next, each-all}
+use Rattle.fill.specs.EachLaws.{each-start, each-next, each-end}
 use Rattle.boundary_look.proofs.look.second_is_first.Statement.{statement}
 use Rattle.boundary_look.proofs.look.second_is_first.Tie as tie
 
@@ -16,7 +16,7 @@ abbrev μ-loop : tie.MeasureT-loop
 μ-loop output are₀ k₀ are k = 1152 - k
 
 loop-holds : tie.Need-loop-holds Inv-loop μ-loop
-loop-holds c = (omega arith, each-none _)
+loop-holds c = (omega arith, each-start _)
 
 add-same : tie.Need-add-same Inv-loop μ-loop
 add-same c = omega arith
@@ -46,7 +46,7 @@ loop-again : tie.Need-loop-again Inv-loop μ-loop
 loop-again c = (omega arith, each-next _ _ _ _ (c .before .before .before .before .loop .inv .1) (c .same .ensures))
 
 returns : tie.Need-returns Inv-loop μ-loop
-returns c = each-all _ _ _ _ (c .before .loop .inv .1) (c .before .loop .inv .0) (omega arith)
+returns c = each-end _ _ _ _ (c .before .loop .inv .1) (c .before .loop .inv .0) (omega arith)
 
 pub second-is-first-spec : {M : Type 1} → statement M
 second-is-first-spec =

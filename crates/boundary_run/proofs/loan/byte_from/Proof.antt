@@ -1,4 +1,4 @@
--- `boundary::loan::byte_from` meets its contract: each return goes by the test that led there.
+-- `boundary_run::loan::byte_from` meets its contract: each return goes by the test that led there.
 use Rattle.boundary_run.specs.LoanLaws.{from-start, after-start}
 use borrow.Author.Needs.{needs}
 use Rattle.boundary_run.proofs.loan.byte_from.Statement.{statement}

@@ -1,4 +1,4 @@
--- `boundary::loan::ones_at` meets its contract: each return goes by the tests that led there.
+-- `boundary_run::loan::ones_at` meets its contract: each return goes by the tests that led there.
 use Rattle.boundary_run.specs.LoanLaws.{ones-before, ones-there, ones-after}
 use Rattle.boundary_run.proofs.loan.ones_at.Statement.{statement}
 use Rattle.boundary_run.proofs.loan.ones_at.Tie as tie

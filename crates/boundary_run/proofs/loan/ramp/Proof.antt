@@ -1,4 +1,4 @@
--- `boundary::loan::ramp` meets its contract. The loop fills the list in order.
+-- `boundary_run::loan::ramp` meets its contract. The loop fills the list in order.
 use Prim.Native.Nat.{_-_}
 use mathlib.Core.Path.{refl}
 use native.Mathlib.Omega.{arith}

@@ -1,4 +1,4 @@
--- `boundary::loan::step_at` meets its contract: each return goes by the tests that led there.
+-- `boundary_run::loan::step_at` meets its contract: each return goes by the tests that led there.
 use Rattle.boundary_run.specs.LoanLaws.{step-beyond, step-above, step-there}
 use Rattle.boundary_run.proofs.loan.step_at.Statement.{statement}
 use Rattle.boundary_run.proofs.loan.step_at.Tie as tie

@@ -1,4 +1,4 @@
--- `boundary::run::in_numbers` meets its contract, case by case.
+-- `boundary_run::run::in_numbers` meets its contract, case by case.
 use Rattle.boundary_run.specs.ToldLaws.{told-accepted, told-refused}
 use borrow.Author.Needs.{needs}
 use Rattle.boundary_run.proofs.run.in_numbers.Statement.{statement}

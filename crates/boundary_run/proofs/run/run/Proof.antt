@@ -1,4 +1,4 @@
--- `boundary::run::run` meets its contract.
+-- `boundary_run::run::run` meets its contract.
 use mathlib.Core.Path.{sym, ap, _∙_}
 use Prim.Native.Nat.{_+_, _≤_}
 use native.Mathlib.Omega.{arith}

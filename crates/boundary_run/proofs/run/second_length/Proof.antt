@@ -1,4 +1,4 @@
--- `boundary::run::second_length` meets its contract.
+-- `boundary_run::run::second_length` meets its contract.
 use native.Mathlib.Omega.{arith}
 use borrow.Author.Tests.{eq-eqb, ne-eqb}
 use Rattle.boundary_run.proofs.run.second_length.Statement.{statement}

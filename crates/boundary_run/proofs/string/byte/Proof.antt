@@ -1,4 +1,4 @@
--- `boundary::string::byte` meets its contract: at k the value is that of the first k places.
+-- `boundary_run::string::byte` meets its contract: at k the value is that of the first k places.
 use Prim.Native.Nat.{_≤_, _<_, _-_}
 use mathlib.Core.Path.{_≡_, refl, ap, _∙_}
 use native.Mathlib.Omega.{arith}

@@ -1,4 +1,4 @@
--- `boundary::string::bytes` meets its contract. The loop fills the list in order.
+-- `boundary_run::string::bytes` meets its contract. The loop fills the list in order.
 use Prim.Native.Nat.{ℕ, _*_, _-_}
 use native.Mathlib.Omega.{arith}
 use borrow.Author.Needs.{needs}

@@ -1,4 +1,4 @@
--- `boundary::string::put` meets its contract: what is left to put into the places so far is the whole.
+-- `boundary_run::string::put` meets its contract: what is left to put into the places so far is the whole.
 use mathlib.Core.Path.{_≡_, refl, sym, _∙_}
 use Prim.Native.Nat.{_≤_}
 use native.Mathlib.Omega.{arith}

@@ -1,4 +1,4 @@
--- `mcread::body::decode_body` meets its contract: the parts that are lent of the two arrays are what was filled.
+-- `frame_body::body::decode_body` meets its contract: the parts that are lent of the two arrays are what was filled.
 use mathlib.Core.Path.{sym}
 use native.Mathlib.Omega.{arith}
 use native.Mathlib.Nat.{min-le-right}

@@ -1,4 +1,4 @@
--- `mcread::body::decode_parts` meets its contract: each part lies within its slice.
+-- `frame_body::body::decode_parts` meets its contract: each part lies within its slice.
 use Rattle.frame_body.specs.Lent.{lentFrom}
 use Rattle.frame_file.specs.FileLaws.{right-of}
 use native.Mathlib.Omega.{arith}

@@ -1,4 +1,4 @@
--- `mcread::body::layout_of` meets its contract.
+-- `frame_body::body::layout_of` meets its contract.
 use Rattle.frame_body.specs.LentLaws.{layout-accepted, layout-refused}
 use borrow.Author.Needs.{needs}
 use Rattle.frame_body.proofs.body.layout_of.Statement.{statement}

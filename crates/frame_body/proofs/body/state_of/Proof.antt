@@ -1,4 +1,4 @@
--- `mcread::body::state_of` meets its contract.
+-- `frame_body::body::state_of` meets its contract.
 use Rattle.frame_body.specs.Lent.{stateOf}
 use borrow.Author.Needs.{needs}
 use Rattle.frame_body.proofs.body.state_of.Statement.{statement}

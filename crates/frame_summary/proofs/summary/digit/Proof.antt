@@ -1,4 +1,4 @@
--- `frame_file::summary::digit` meets its contract.
+-- `frame_summary::summary::digit` meets its contract.
 use native.Mathlib.Omega.{arith}
 use Prim.Native.Nat.{_<_, _%_}
 use borrow.Author.Tests.{lt-ltb}

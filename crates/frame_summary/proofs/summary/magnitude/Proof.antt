@@ -1,4 +1,4 @@
--- `frame_file::summary::magnitude` meets its contract.
+-- `frame_summary::summary::magnitude` meets its contract.
 use Rattle.frame_summary.proofs.summary.magnitude.Statement.{statement}
 use Rattle.frame_summary.proofs.summary.magnitude.Tie as tie
 

@@ -1,4 +1,4 @@
--- `frame_file::summary::nonzero` meets its contract. The number of values that are not 0 from here on, with what was counted, stays the same.
+-- `frame_summary::summary::nonzero` meets its contract. The number of values that are not 0 from here on, with what was counted, stays the same.
 use Prim.Native.Nat.{ℕ, _+_, _-_, _≤_}
 use native.Mathlib.Omega.{arith}
 use borrow.Author.Needs.{needs}

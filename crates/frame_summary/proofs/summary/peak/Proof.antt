@@ -1,4 +1,4 @@
--- `frame_file::summary::peak` meets its contract. The largest magnitude from here on, with what was found, stays the same.
+-- `frame_summary::summary::peak` meets its contract. The largest magnitude from here on, with what was found, stays the same.
 use Prim.Native.Nat.{_+_, _-_}
 use native.Mathlib.Omega.{arith}
 use borrow.Author.Needs.{needs}

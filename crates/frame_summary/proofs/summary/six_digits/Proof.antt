@@ -1,4 +1,4 @@
--- `frame_file::summary::six_digits` meets its contract.
+-- `frame_summary::summary::six_digits` meets its contract.
 use borrow.Author.Needs.{needs}
 use Rattle.frame_summary.proofs.summary.six_digits.Statement.{statement}
 use Rattle.frame_summary.proofs.summary.six_digits.Tie as tie

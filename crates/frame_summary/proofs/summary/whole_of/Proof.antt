@@ -1,4 +1,4 @@
--- `frame_file::summary::whole_of` meets its contract: the two tests are what the cast asks.
+-- `frame_summary::summary::whole_of` meets its contract: the two tests are what the cast asks.
 use mathlib.Core.Path.{sym, subst}
 use lib.Dec.{T}
 use lib.Ieee.{ofBits, neg}

@@ -1,7 +1,8 @@
--- `frame_file::text::name_of` meets its contract: each name is that of the number that was tested.
+-- `frame_text::text::name_of` meets its contract: each name is that of the number that was tested.
 use mathlib.Core.Path.{_≡_, sym, ap}
 use Rattle.fill.specs.Tab.{tab}
-use Rattle.frame_text.specs.Text.{ascii, nameOf}
+use Rattle.fill.specs.Ascii.{ascii}
+use Rattle.frame_text.specs.Text.{nameOf}
 use Rattle.frame_text.specs.TextLaws.{spelled, name-last}
 use borrow.Author.Needs.{needs}
 use Rattle.frame_text.proofs.text.name_of.Statement.{statement}

@@ -1,4 +1,4 @@
--- `frame_file::text::text_of` meets its contract. The loop copies the letters in order.
+-- `frame_text::text::text_of` meets its contract. The loop copies the letters in order.
 use Prim.Native.Nat.{_-_}
 use native.Mathlib.Omega.{arith}
 use mathlib.Core.Path.{refl}

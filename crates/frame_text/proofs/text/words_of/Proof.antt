@@ -1,7 +1,8 @@
--- `frame_file::text::words_of` meets its contract: each sentence is that of the refusal that was found.
+-- `frame_text::text::words_of` meets its contract: each sentence is that of the refusal that was found.
 use mathlib.Core.Path.{sym, ap}
 use Rattle.fill.specs.Tab.{tab}
-use Rattle.frame_text.specs.Text.{ascii, wordsOf}
+use Rattle.fill.specs.Ascii.{ascii}
+use Rattle.frame_text.specs.Text.{wordsOf}
 use Rattle.frame_text.specs.TextLaws.{spelled}
 use borrow.Author.Needs.{needs}
 use Rattle.frame_text.proofs.text.words_of.Statement.{statement}

@@ -14,7 +14,7 @@ use Rattle.mc_body.proofs.write.finish_payload.Reads as finish-payload-
 use Rattle.mc_body.proofs.write.write_samples.Reads as write-samples-reads
 use Rattle.mc_unpack.proofs.error_of.Reads as error-of-reads
 use Rattle.mc_unpack.proofs.read_mc_payload.Reads as read-mc-payload-reads
-use Rattle.mc_places.proofs.settings.Reads as settings-reads
+use Rattle.mc_loan.proofs.settings.Reads as settings-reads
 
 -- src/unpacked.rt:72:9
 settings-requires : tie.Need-settings-requires

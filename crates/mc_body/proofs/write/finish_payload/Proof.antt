@@ -1,4 +1,4 @@
--- `mc_frame::write::finish_payload` meets its contract.
+-- `mc_body::write::finish_payload` meets its contract.
 use Rattle.mc_codes.specs.Outcome.{codesOf}
 use Rattle.mc_body.specs.WriteLaws.{tables, record-fits, work-written}
 use borrow.Author.Needs.{needs}

@@ -1,4 +1,4 @@
--- `mc_frame::write::write_samples` meets its contract.
+-- `mc_body::write::write_samples` meets its contract.
 use Rattle.mc_body.specs.WriteLaws.{raw-ready, raw-written, lfe-written}
 use borrow.Author.Needs.{needs}
 use Rattle.mc_body.proofs.write.write_samples.Statement.{statement}

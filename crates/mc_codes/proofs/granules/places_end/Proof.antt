@@ -6,7 +6,6 @@ use Prim.Native.Nat.{ℕ, _+_, _-_, _≤_, _<_}
 use native.Mathlib.Nat.{eq-or-lt-of-le}
 use native.Mathlib.Omega.{arith}
 use lib.ListN.{getD}
-use borrow.Author.Needs.{needs}
 use Rattle.mc_codes.proofs.granules.places_end.Statement.{statement}
 use Rattle.mc_codes.proofs.granules.places_end.Tie as tie
 

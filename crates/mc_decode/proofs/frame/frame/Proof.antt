@@ -1,4 +1,4 @@
--- `mc_frame::frame::frame` meets its contract.
+-- `mc_decode::frame::frame` meets its contract.
 use Rattle.mc_state.specs.Answer.{buffersFrom}
 use Rattle.mc_decode.specs.FrameLaws.{after-lent, lfe-low, long, after-values, after-head, after-payload}
 use borrow.Author.Needs.{needs}

@@ -1,4 +1,4 @@
--- `mc_head::header::read_mc_header` meets its contract.
+-- `mc_fields::header::read_mc_header` meets its contract.
 use borrow.Author.Needs.{needs}
 use lib.Dec.{lit≤}
 use Rattle.cursor.specs.CursorLaws.{cur-fits}

@@ -4,9 +4,10 @@ use mathlib.Core.Bool.{true}
 use Prim.Native.Nat.{_-_, _≤_}
 use native.Mathlib.Omega.{arith}
 use borrow.Author.Needs.{needs}
-use Rattle.mc_payload.specs.Unpack.{each}
+use Rattle.fill.specs.Each.{each}
 use Rattle.mc_places.specs.PlacesBy.{allocationAt}
-use Rattle.mc_places.specs.AllocationsLaws.{each-none, each-left, each-on, each-all, allocations-refused, allocations-none, allocations-lfe}
+use Rattle.fill.specs.EachLaws.{each-none, each-left, each-on, each-all}
+use Rattle.mc_places.specs.AllocationsLaws.{allocations-refused, allocations-none, allocations-lfe}
 use Rattle.mc_places.proofs.allocations.allocations_fit.Statement.{statement}
 use Rattle.mc_places.proofs.allocations.allocations_fit.Tie as tie
 

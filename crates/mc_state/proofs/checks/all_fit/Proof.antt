@@ -1,5 +1,5 @@
--- `mc_frame::checks::all_fit` meets its contract: at k the flag is the test of the first k values.
-use mathlib.Core.Path.{_≡_, refl, sym, ap, _∙_}
+-- `mc_state::checks::all_fit` meets its contract: at k the flag is the test of the first k values.
+use mathlib.Core.Path.{_≡_, refl, ap, _∙_}
 use mathlib.Core.Bool.{Bool, _&&_, and-assoc}
 use mathlib.Core.List.{List}
 use Prim.Native.Nat.{ℕ, _+_, _≤_, _-_}
@@ -8,7 +8,7 @@ use native.Mathlib.Omega.{arith}
 use lib.Ieee.{Float, nan, le, neg}
 use lib.ListN.{length, getD}
 use borrow.Author.Needs.{needs}
-use Rattle.mc_payload.specs.Unpack.{each}
+use Rattle.fill.specs.Each.{each}
 use Rattle.mc_state.specs.Frame.{four, valueFits}
 use Rattle.mc_state.proofs.checks.all_fit.Statement.{statement}
 use Rattle.mc_state.proofs.checks.all_fit.Tie as tie

@@ -1,4 +1,4 @@
--- `mc_frame::checks::lent_fits` meets its contract.
+-- `mc_state::checks::lent_fits` meets its contract.
 use mathlib.Core.Path.{_≡_}
 use mathlib.Core.Bool.{Bool, _&&_}
 use Rattle.mc_state.specs.Frame.{lentBy}
@@ -9,8 +9,8 @@ use Rattle.mc_state.proofs.checks.lent_fits.Reads as reads
 use Rattle.mc_state.proofs.checks.lent_fits.Lts as lts
 use Rattle.mc_state.proofs.checks.room_fits.Reads as room-fits-reads
 use Rattle.mc_state.proofs.checks.values_long.Reads as values-long-reads
-use Rattle.mc_head.proofs.string_fits.Reads as string-fits-reads
-use Rattle.mc_places.proofs.loan_fits.Reads as loan-fits-reads
+use Rattle.mc_fields.proofs.string_fits.Reads as string-fits-reads
+use Rattle.mc_loan.proofs.loan_fits.Reads as loan-fits-reads
 
 -- src/checks.rt:87:9
 joined : (f : Bool) {a b c d e a′ b′ c′ d′ e′ : Bool} → a ≡ a′ → b ≡ b′ → c ≡ c′ → d ≡ d′ → e ≡ e′ → a && (b && (c && (d && (e && f)))) ≡ a′ && (b′ && (c′ && (d′ && (e′ && f))))

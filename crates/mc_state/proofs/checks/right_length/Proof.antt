@@ -1,4 +1,4 @@
--- `mc_frame::checks::right_length` meets its contract.
+-- `mc_state::checks::right_length` meets its contract.
 use borrow.Author.Tests.{eq-eqb, ne-eqb}
 use Rattle.mc_state.proofs.checks.right_length.Statement.{statement}
 use Rattle.mc_state.proofs.checks.right_length.Tie as tie

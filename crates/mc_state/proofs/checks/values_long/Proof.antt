@@ -1,4 +1,4 @@
--- `mc_frame::checks::values_long` meets its contract.
+-- `mc_state::checks::values_long` meets its contract.
 use borrow.Author.Needs.{needs}
 use Rattle.mc_state.proofs.checks.values_long.Statement.{statement}
 use Rattle.mc_state.proofs.checks.values_long.Tie as tie

@@ -1,4 +1,4 @@
--- `mc_frame::state::one_more` meets its contract.
+-- `mc_state::state::one_more` meets its contract.
 use borrow.Author.Tests.{lt-ltb, le-ltb}
 use borrow.Author.Needs.{needs}
 use Rattle.mc_state.proofs.state.one_more.Statement.{statement}

@@ -1,4 +1,4 @@
--- `mc_head::status::predictors_if` meets its contract.
+-- `mc_status::status::predictors_if` meets its contract.
 use borrow.Author.Needs.{needs}
 use Rattle.mc_status.proofs.status.predictors_if.Statement.{statement}
 use Rattle.mc_status.proofs.status.predictors_if.Tie as tie

@@ -1,4 +1,4 @@
--- `mc_head::status::read_status` meets its contract.
+-- `mc_status::status::read_status` meets its contract.
 use borrow.Author.Needs.{needs}
 use lib.Dec.{lit≤}
 use Rattle.mc_fields.specs.FieldLaws.{bits-if-most}

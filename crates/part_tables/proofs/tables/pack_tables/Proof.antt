@@ -1,4 +1,4 @@
--- `parts::tables::pack_tables` meets its contract.
+-- `part_tables::tables::pack_tables` meets its contract.
 use Rattle.part_tables.specs.PayloadLaws.{packs-accepted, packs-refused}
 use borrow.Author.Needs.{needs}
 use Rattle.part_tables.proofs.tables.pack_tables.Statement.{statement}

@@ -1,4 +1,4 @@
--- `parts::tables::write_tables` meets its contract.
+-- `part_tables::tables::write_tables` meets its contract.
 use Rattle.part_tables.specs.PayloadLaws.{writes-accepted, writes-refused}
 use borrow.Author.Needs.{needs}
 use Rattle.part_tables.proofs.tables.write_tables.Statement.{statement}

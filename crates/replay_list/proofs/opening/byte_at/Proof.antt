@@ -1,4 +1,4 @@
--- `replay::opening::byte_at` meets its contract.
+-- `replay_list::opening::byte_at` meets its contract.
 use mathlib.Core.Path.{sym}
 use lib.ListN.{List·getD-eq-default}
 use borrow.Author.Needs.{needs}

@@ -1,7 +1,7 @@
--- `replay::opening::fill_steps` meets its contract. The loop fills the step counts in order.
+-- `replay_list::opening::fill_steps` meets its contract. The loop fills the step counts in order.
 use native.Mathlib.Omega.{arith}
 use borrow.Author.Needs.{needs}
-use mathlib.Core.Path.{refl, ap, _∙_}
+use mathlib.Core.Path.{ap, _∙_}
 use Prim.Native.Nat.{_+_, _-_}
 use lib.ListN.{length, getD}
 use Rattle.fill.specs.InOrder.{Filling, starts, more}

@@ -1,7 +1,5 @@
--- `replay::opening::lend_values` meets its contract.
+-- `replay_list::opening::lend_values` meets its contract.
 use Rattle.replay_list.specs.OpeningLaws.{values-lent}
-use mathlib.Core.Path.{_∙_, ap}
-use Rattle.replay_list.specs.Opening.{lentValues}
 use borrow.Author.Needs.{needs}
 use Rattle.replay_list.proofs.opening.lend_values.Statement.{statement}
 use Rattle.replay_list.proofs.opening.lend_values.Tie as tie

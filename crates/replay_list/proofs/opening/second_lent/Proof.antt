@@ -1,4 +1,4 @@
--- `replay::opening::second_lent` meets its contract.
+-- `replay_list::opening::second_lent` meets its contract.
 use native.Mathlib.Omega.{arith}
 use Rattle.replay_list.specs.OpeningLaws.{second-all, second-none}
 use borrow.Author.Needs.{needs}

@@ -1,4 +1,4 @@
--- `replay::opening::start` meets its contract.
+-- `replay_list::opening::start` meets its contract.
 use Rattle.replay_list.specs.OpeningLaws.{start-goes-on, start-anew}
 use borrow.Author.Needs.{needs}
 use Rattle.replay_list.proofs.opening.start.Statement.{statement}

@@ -1,4 +1,4 @@
--- `replay::opening::steps_of` meets its contract.
+-- `replay_list::opening::steps_of` meets its contract.
 use Rattle.replay_list.specs.OpeningLaws.{steps-known, steps-unknown}
 use borrow.Author.Needs.{needs}
 use Rattle.replay_list.proofs.opening.steps_of.Statement.{statement}

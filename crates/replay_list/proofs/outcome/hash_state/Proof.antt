@@ -1,4 +1,4 @@
--- `replay::outcome::hash_state` meets its contract.
+-- `replay_list::outcome::hash_state` meets its contract.
 use Rattle.replay_list.specs.Outcome.{stateHash}
 use borrow.Author.Needs.{needs}
 use Rattle.replay_list.proofs.outcome.hash_state.Statement.{statement}

@@ -1,4 +1,4 @@
--- `replay::outcome::listed` meets its contract.
+-- `replay_list::outcome::listed` meets its contract.
 use borrow.Author.Needs.{needs}
 use Rattle.replay_list.proofs.outcome.listed.Statement.{statement}
 use Rattle.replay_list.proofs.outcome.listed.Tie as tie

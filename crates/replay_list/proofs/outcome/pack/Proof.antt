@@ -1,4 +1,4 @@
--- `replay::outcome::pack` meets its contract.
+-- `replay_list::outcome::pack` meets its contract.
 use Rattle.mc_state.specs.PackLaws.{packs-accepted, packs-refused}
 use borrow.Author.Needs.{needs}
 use Rattle.replay_list.proofs.outcome.pack.Statement.{statement}

@@ -1,4 +1,4 @@
--- `replay::outcome::reached` meets its contract.
+-- `replay_list::outcome::reached` meets its contract.
 use borrow.Author.Needs.{needs}
 use Rattle.replay_list.proofs.outcome.reached.Statement.{statement}
 use Rattle.replay_list.proofs.outcome.reached.Tie as tie

@@ -1,8 +1,5 @@
--- `replay::tally::answered` meets its contract.
-use mathlib.Core.Path.{ap}
-use Prim.Native.Nat.{ℕ}
+-- `replay_list::tally::answered` meets its contract.
 use borrow.Author.Tests.{le-leb, lt-leb}
-use lib.ListN.{set}
 use borrow.Author.Needs.{needs}
 use Rattle.replay_list.proofs.tally.answered.Statement.{statement}
 use Rattle.replay_list.proofs.tally.answered.Tie as tie

@@ -1,4 +1,4 @@
--- `replay::tally::tallied` meets its contract.
+-- `replay_list::tally::tallied` meets its contract.
 use Rattle.replay_list.specs.OutcomeLaws.{flag-byte}
 use borrow.Author.Needs.{needs}
 use Rattle.replay_list.proofs.tally.tallied.Statement.{statement}

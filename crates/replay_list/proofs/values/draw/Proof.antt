@@ -1,4 +1,4 @@
--- `replay::values::draw` meets its contract.
+-- `replay_list::values::draw` meets its contract.
 use mathlib.Core.Path.{refl}
 use Rattle.replay_list.specs.Values.{drawn}
 use Rattle.replay_list.proofs.values.draw.Statement.{statement}

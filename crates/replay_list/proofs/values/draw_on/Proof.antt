@@ -1,4 +1,4 @@
--- `replay::values::draw_on` meets its contract.
+-- `replay_list::values::draw_on` meets its contract.
 use native.Mathlib.Omega.{arith}
 use borrow.Author.Needs.{needs}
 use mathlib.Core.Path.{_≡_, refl, sym, ap, _∙_}

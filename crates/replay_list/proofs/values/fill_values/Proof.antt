@@ -1,11 +1,8 @@
--- `replay::values::fill_values` meets its contract. The loop draws in order.
+-- `replay_list::values::fill_values` meets its contract. The loop draws in order.
 use native.Mathlib.Omega.{arith}
 use borrow.Author.Needs.{needs}
-use mathlib.Core.Path.{_∙_}
 use Prim.Native.Nat.{_-_}
 use lib.ListN.{length}
-use Rattle.fill.specs.InOrder.{starts}
-use Rattle.replay_list.specs.Values.{drawnTo}
 use Rattle.replay_list.specs.ValuesLaws.{Drawing, draw-starts, draws, drawn-all}
 use Rattle.replay_list.proofs.values.fill_values.Statement.{statement}
 use Rattle.replay_list.proofs.values.fill_values.Tie as tie

@@ -1,4 +1,4 @@
--- `replay::values::fraction` meets its contract.
+-- `replay_list::values::fraction` meets its contract.
 use Rattle.replay_list.specs.ValuesLaws.{two-to-20}
 use borrow.Author.Needs.{needs}
 use Rattle.replay_list.proofs.values.fraction.Statement.{statement}

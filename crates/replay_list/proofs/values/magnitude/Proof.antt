@@ -1,4 +1,4 @@
--- `replay::values::magnitude` meets its contract.
+-- `replay_list::values::magnitude` meets its contract.
 use Rattle.replay_list.specs.ValuesLaws.{magnitude-zero, magnitude-bound, magnitude-any}
 use borrow.Author.Needs.{needs}
 use Rattle.replay_list.proofs.values.magnitude.Statement.{statement}

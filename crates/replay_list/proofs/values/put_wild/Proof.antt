@@ -1,4 +1,4 @@
--- `replay::values::put_wild` meets its contract.
+-- `replay_list::values::put_wild` meets its contract.
 use Rattle.replay_list.specs.ValuesLaws.{wild-none, wild-before, wild-past, wild-put}
 use borrow.Author.Needs.{needs}
 use Rattle.replay_list.proofs.values.put_wild.Statement.{statement}

@@ -1,4 +1,4 @@
--- `replay::values::value_of` meets its contract.
+-- `replay_list::values::value_of` meets its contract.
 use Rattle.replay_list.specs.ValuesLaws.{value-negative, value-positive}
 use borrow.Author.Needs.{needs}
 use Rattle.replay_list.proofs.values.value_of.Statement.{statement}

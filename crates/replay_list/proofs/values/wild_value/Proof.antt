@@ -1,4 +1,4 @@
--- `replay::values::wild_value` meets its contract.
+-- `replay_list::values::wild_value` meets its contract.
 use mathlib.Core.Path.{ap, _∙_}
 use lib.Ieee.{neg}
 use Rattle.replay_list.specs.Values.{wildOf}

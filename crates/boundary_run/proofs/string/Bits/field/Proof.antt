@@ -1,4 +1,4 @@
--- `boundary::string::Bits::field` meets its contract.
+-- `boundary_run::string::Bits::field` meets its contract.
 use native.Mathlib.Omega.{arith}
 use Rattle.boundary_run.specs.StringLaws.{field-passes, field-fits}
 use borrow.Author.Needs.{needs}

@@ -1,4 +1,4 @@
--- `boundary::string::Bits::fields` meets its contract: after k turns there are k fields more.
+-- `boundary_run::string::Bits::fields` meets its contract: after k turns there are k fields more.
 use Prim.Native.Nat.{ℕ, _-_, _≤_}
 use mathlib.Core.Path.{_≡_, refl, ap, _∙_}
 use native.Mathlib.Omega.{arith}

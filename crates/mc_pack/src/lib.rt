@@ -1,0 +1,96 @@
+// The frame call's answer as one number, and a fresh state in place of another: what the functions for C commit.
+ghost use mathlib.Core.Path.{_≡_};
+ghost use Rattle.mc_finish.specs.Finish.{baseFrom};
+ghost use Rattle.mc_state.specs.Answer.{lentOf, buffersFrom, outcomeOf, packed, packedBy, packedOf};
+ghost use Rattle.mc_state.specs.Frame.{fresh, frameOf};
+use mc_decode::frame_by_value;
+use mc_state::McAnswer;
+use mc_state::McDecodeState;
+
+// The answer as one number.
+fn pack(answer: McAnswer) -> u64
+    ensures { λ r. ⌜ r ≡ packed (outcomeOf answer) ⌝ }
+{
+    match answer {
+        McAnswer::Accepted {
+            head_bits,
+            payload_bits,
+        } => {
+            (head_bits % 16777216) as u64 * 256 + (payload_bits % 4294967296) as u64 * 4294967296
+        }
+        McAnswer::Refused(e) => {
+            e.number() as u64 + (e.group() % 16777216) as u64 * 256 + e.code() as u64 * 4294967296
+        }
+    }
+}
+
+pub struct PackedFrame {
+    pub answer: u64,
+    pub state: McDecodeState,
+}
+
+// One frame, its answer packed.
+pub fn packed_frame<'h, 'p, 'a, 'b, 'n, 'r, 'w, 'o, 'l>(
+    state: McDecodeState,
+    head: &'h [u8],
+    head_bits: usize,
+    payload: &'p [u8],
+    payload_bits: usize,
+    rate: u32,
+    base_channels: u8,
+    raw_left: &'a [f64],
+    raw_right: &'a [f64],
+    scaled_left: &'a [f64],
+    scaled_right: &'a [f64],
+    base_nb_steps: &'b [u32],
+    lfe_allocation: u8,
+    nb_steps: &'n [u32],
+    raw: &'r mut [f64],
+    work: &'w mut [f64],
+    output: &'o mut [f64],
+    lfe: &'l mut [f64],
+) -> PackedFrame
+    ensures { λ r. ⌜ packedBy (r .answer) (r .state) (buffersFrom (now (raw .exit)) (now (work .exit)) (now (output .exit)) (now (lfe .exit))) ≡ packedOf (frameOf (lentOf (now (head .entry)) «head_bits» (now (payload .entry)) «payload_bits» rate «base_channels» (baseFrom (now («raw_left» .entry)) (now («raw_right» .entry)) (now («scaled_left» .entry)) (now («scaled_right» .entry))) (now («base_nb_steps» .entry)) «lfe_allocation» (now («nb_steps» .entry))) (buffersFrom (now (raw .entry)) (now (work .entry)) (now (output .entry)) (now (lfe .entry))) state) ⌝ }
+{
+    let t = frame_by_value(
+        state,
+        head,
+        head_bits,
+        payload,
+        payload_bits,
+        rate,
+        base_channels,
+        raw_left,
+        raw_right,
+        scaled_left,
+        scaled_right,
+        base_nb_steps,
+        lfe_allocation,
+        nb_steps,
+        raw,
+        work,
+        output,
+        lfe,
+    );
+    let answer = t.answer;
+    let next = t.state;
+    PackedFrame {
+        answer: pack(answer),
+        state: next,
+    }
+}
+
+pub struct Refreshed {
+    pub answer: u32,
+    pub state: McDecodeState,
+}
+
+// A fresh state in place of another.
+pub fn renewed(_state: McDecodeState) -> Refreshed
+    ensures { λ r. ⌜ (r .answer ≡ 0) × (r .state ≡ fresh) ⌝ }
+{
+    Refreshed {
+        answer: 0,
+        state: McDecodeState::new(),
+    }
+}
