@@ -5,7 +5,6 @@ ghost use Prim.Native.Nat.{ℕ, _+_, _*_, _<_, _≤_};
 ghost use lib.Dec.{eqb};
 ghost use lib.Ieee.{nan};
 ghost use lib.ListN.{length, getD};
-ghost use Rattle.mc_payload.specs.Places.{msblimit};
 ghost use Rattle.mc_scale.specs.Code.Strided.{strided, across};
 ghost use Rattle.mc_scale.specs.Scale.{scaledBase};
 ghost use Rattle.mc_finish.specs.Output.{outputOf, historyOf};
@@ -14,6 +13,7 @@ use mc_config::McConfig;
 use mc_config::sbgr_of_subband;
 use mc_dematrix::dematrix;
 use mc_payload::McSettings;
+use mc_payload::msblimit;
 use mc_scale::chosen;
 use mc_scale::second_base;
 
@@ -27,13 +27,6 @@ struct Mix {
     second_stereo: bool,
     // subbands from here on carry nothing
     limit: usize,
-}
-
-// msblimit (2.5.2.17).
-fn msblimit(rate: u32) -> usize
-    ensures { λ r. ⌜ r ≡ msblimit rate ⌝ }
-{
-    if rate == 48000 { 27 } else { 30 }
 }
 
 fn mix_of(s: McSettings) -> Mix

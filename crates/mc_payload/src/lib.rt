@@ -1,4 +1,7 @@
-// What a payload is read under. The definition of the payload (ISO/IEC 13818-3, 2.5.1.17), demand 3 and the longest payload stand in specs/.
+// What a payload is read under, and the subband limit. The definition of the payload (ISO/IEC 13818-3, 2.5.1.17), demand 3 and the longest
+// payload stand in specs/.
+ghost use mathlib.Core.Path.{_≡_};
+ghost use Rattle.mc_payload.specs.Places.{msblimit};
 use mc_config::McHeader;
 use mc_fields::McStatus;
 
@@ -12,4 +15,11 @@ pub struct McSettings {
     pub nb_steps: [u32; 96],
     // base step counts, likewise
     pub base_nb_steps: [u32; 64],
+}
+
+// Subbands from here on carry nothing (2.5.2.17).
+pub fn msblimit(rate: u32) -> usize
+    ensures { λ r. ⌜ r ≡ msblimit rate ⌝ }
+{
+    if rate == 48000 { 27 } else { 30 }
 }

@@ -1,4 +1,4 @@
-// Before a payload is read: the test of what is lent, the places that carry samples with their sources, and the test of the allocations.
+// Before a payload is read: the places that carry samples with their sources, and the test of the allocations.
 
 mod allocations;
 mod places;

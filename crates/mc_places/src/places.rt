@@ -3,12 +3,12 @@ ghost use mathlib.Core.Path.{_≡_};
 ghost use Prim.Native.Nat.{ℕ, _<_};
 ghost use lib.ListN.{getD};
 ghost use Rattle.mc_config.specs.Config.{mainOf};
-ghost use Rattle.mc_payload.specs.Places.{msblimit};
 ghost use Rattle.mc_places.specs.PlacesBy.{carriedBy, sourceBy, groupSources, groupBases, stepsBy, ownBy, placesBy, placesOf};
 use mc_config::McConfig;
 use mc_crosstalk::FROM_BASE;
 use mc_crosstalk::TRANSMITTED;
 use mc_payload::McSettings;
+use mc_payload::msblimit;
 
 // By place, which is 3 * subband + channel.
 pub struct Places {
@@ -18,13 +18,6 @@ pub struct Places {
     pub source: [u8; 96],
     // the base channel that is copied where the source is FROM_BASE
     pub base: [u8; 96],
-}
-
-// Subbands from here on carry nothing.
-fn msblimit(rate: u32) -> usize
-    ensures { λ r. ⌜ r ≡ msblimit rate ⌝ }
-{
-    if rate == 48000 { 27 } else { 30 }
 }
 
 // Whether channel m is there in subband sb; a phantom centre bars the first channel from subband 12 on.

@@ -1,7 +1,7 @@
--- `output::msblimit` meets its contract.
+-- `mc_payload::msblimit` meets its contract.
 use borrow.Author.Tests.{ne-eqb}
-use Rattle.mc_finish.proofs.output.msblimit.Statement.{statement}
-use Rattle.mc_finish.proofs.output.msblimit.Tie as tie
+use Rattle.mc_payload.proofs.msblimit.Statement.{statement}
+use Rattle.mc_payload.proofs.msblimit.Tie as tie
 
 returns : tie.Need-returns
 returns c = rw (c .if1 .taken)
