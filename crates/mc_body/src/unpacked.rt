@@ -13,7 +13,7 @@ use mc_config::McConfig;
 use mc_config::McHeader;
 use mc_error::McError;
 use mc_fields::McStatus;
-use mc_finish::history;
+use mc_history::history;
 use mc_loan::settings;
 use mc_payload::McSettings;
 use mc_state::Framed;

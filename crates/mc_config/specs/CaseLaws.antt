@@ -1,6 +1,7 @@
 -- Laws of answers by cases: by a test, and by the six cases of front and surround.
 use mathlib.Core.Path.{_≡_, refl, sym, subst}
 use mathlib.Core.Bool.{Bool, true, false, cond}
+use mathlib.Core.Logic.{_⊎_, inl, inr}
 use Prim.Native.Nat.{ℕ}
 use borrow.Author.Tests.{eqb-true, ne-eqb}
 use lib.Dec.{eqb}
@@ -33,6 +34,11 @@ other a b c d e =
       not22 = ne-eqb _ 22 d;
       not21 = ne-eqb _ 21 e;
     }
+
+-- what is left of a match after the arms `32`, `31 | 22` and `30 | 21`
+pub rest-other :
+    {pair : ℕ} → ((Unit {0} × (pair ≡ 32 → ⊥)) × ((pair ≡ 22) ⊎ (pair ≡ 31) → ⊥)) × ((pair ≡ 21) ⊎ (pair ≡ 30) → ⊥) → Other pair
+rest-other r = other (r .0 .0 .1) (λ e. r .0 .1 (inr e)) (λ e. r .1 (inr e)) (λ e. r .0 .1 (inl e)) (λ e. r .1 (inl e))
 
 split {ℓ} : (P : ℕ → Type ℓ) (k pair : ℕ) → P k → (eqb pair k ≡ false → P pair) → P pair
 split P k pair same differs = go (eqb pair k) refl

@@ -3,5 +3,4 @@ pub mod PredictByLine
 pub mod OutputByMix
 pub mod LayOut
 pub mod BaseAlone
-pub mod History
 pub mod Finish

@@ -1,4 +1,4 @@
--- The output by channel, slot and subband, and the history that the next frame predicts from (ISO/IEC 13818-3, 2.5.3.2.1).
+-- Work, and the output by channel, slot and subband (ISO/IEC 13818-3, 2.5.3.2.1).
 use mathlib.Core.Bool.{Bool, _&&_, cond}
 use mathlib.Core.List.{List}
 use Prim.Native.Nat.{ℕ, _+_, _-_, _*_, _/_, _%_}
@@ -12,17 +12,13 @@ use Rattle.mc_config.specs.Groups.{sbgrOf}
 use Rattle.mc_payload.specs.declared.McSettings.{McSettings}
 use Rattle.mc_payload.specs.Places.{config, pair, msblimit}
 use Rattle.mc_payload.specs.Record.{Record}
-use Rattle.mc_scale.specs.Scale.{Base, chosen}
-use Rattle.mc_predict.specs.Predict.{baseFor, workAt}
+use Rattle.mc_scale.specs.Scale.{Base}
+use Rattle.mc_predict.specs.Predict.{baseValue, workAt}
 use Rattle.mc_dematrix.specs.Dematrix.{dematrixed}
 
 -- channel m, slot and subband at (36 m + slot) 32 + sb
 unfoldable pub workOf : McSettings → Record → Base → List Float → List Float
 workOf s r base history = tab (λ (k : ℕ). workAt s r base history (k / 1152) (k / 32 % 36) (k % 32)) 3456
-
--- base channel ch at a slot and subband
-abbrev pub baseValue : McSettings → Base → ℕ → ℕ → ℕ → Float
-baseValue s base ch slot sb = getD (chosen (baseFor s ch) (base .scaledLeft) (base .scaledRight)) (32 * slot + sb) nan
 
 -- main channel m as dematrixing takes it
 abbrev pub mainAt : McSettings → List Float → ℕ → ℕ → ℕ → Float
@@ -57,10 +53,3 @@ outputAt s base work ch slot sb =
 -- channel ch, slot and subband at (36 ch + slot) 32 + sb
 unfoldable pub outputOf : McSettings → Base → List Float → List Float
 outputOf s base work = tab (λ (k : ℕ). outputAt s base work (k / 1152) (k / 32 % 36) (k % 32)) 5760
-
--- the last nine slots of the base, oldest first; one base channel in both places
-unfoldable pub historyAt : McSettings → Base → ℕ → Float
-historyAt s base i = baseValue s base (i / 288) (27 + i % 9) (i % 288 / 9)
-
-unfoldable pub historyOf : McSettings → Base → List Float
-historyOf s base = tab (historyAt s base) 576

@@ -1,4 +1,4 @@
-// From the record to dematrixed subbands (ISO/IEC 13818-3, 2.5.3.2): scaling, prediction, dematrixing, output and history.
+// From the record to dematrixed subbands (ISO/IEC 13818-3, 2.5.3.2): scaling, prediction, dematrixing and output.
 ghost use mathlib.Core.Path.{_≡_};
 ghost use lib.ListN.{length};
 ghost use Rattle.mc_finish.specs.Output.{workOf, outputOf};
@@ -6,8 +6,6 @@ ghost use Rattle.mc_finish.specs.Finish.{baseFrom, recordFrom, Tables, B
 use mc_payload::McSettings;
 
 mod output;
-
-pub use output::history;
 
 // Fills work and output from the record, the base and the history, by the tables of the places.
 pub fn finish<'a, 'b>(

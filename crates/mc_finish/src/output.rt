@@ -1,20 +1,19 @@
-// The output by channel, slot and subband, and the history that the next frame predicts from (ISO/IEC 13818-3, 2.5.3.2.1).
+// The output by channel, slot and subband (ISO/IEC 13818-3, 2.5.3.2.1).
 ghost use mathlib.Core.Path.{_≡_};
 ghost use mathlib.Core.Bool.{cond};
-ghost use Prim.Native.Nat.{ℕ, _+_, _*_, _<_, _≤_};
+ghost use Prim.Native.Nat.{ℕ, _<_, _≤_};
 ghost use lib.Dec.{eqb};
 ghost use lib.Ieee.{nan};
 ghost use lib.ListN.{length, getD};
-ghost use Rattle.mc_scale.specs.Code.Strided.{strided, across};
+ghost use Rattle.mc_scale.specs.Code.Strided.{across};
 ghost use Rattle.mc_scale.specs.Scale.{scaledBase};
-ghost use Rattle.mc_finish.specs.Output.{outputOf, historyOf};
-ghost use Rattle.mc_finish.specs.Code.OutputByMix.{mixOf, tcsOf, mainBy, mixedBy, SecondFits, channelBy, mixedOf, withSecond, beyond, baseAlone, lineBy};
+ghost use Rattle.mc_finish.specs.Output.{outputOf};
+ghost use Rattle.mc_finish.specs.Code.OutputByMix.{mixOf, tcsOf, mainBy, mixedBy, SecondFits, channelBy, mixedOf, withSecond, beyond, baseAlone};
 use mc_config::McConfig;
 use mc_config::sbgr_of_subband;
 use mc_dematrix::dematrix;
 use mc_payload::McSettings;
 use mc_payload::msblimit;
-use mc_scale::chosen;
 use mc_scale::second_base;
 
 // What the output goes by in every slot and subband.
@@ -191,28 +190,4 @@ pub fn write_output<'a>(
     let tcs = tcs_of(&tc);
     write_mixed(x, &tcs, left, second, work, output);
     lay_out(x, work, output);
-}
-
-// The last nine slots of one subband of a base channel, oldest first.
-fn store_line(base: &[f64], sb: usize, values: &mut [f64], at: usize)
-    requires { ⌜ (length (now base) ≡ 1152) × (sb < 32) × (at + 9 ≤ length (now values)) ⌝ }
-    ensures { λ _. ⌜ now (values .exit) ≡ strided 1 (lineBy (now (base .entry)) sb) at 9 (now (values .entry)) ⌝ }
-{
-    for k in 0usize..9 {
-        values[at + k] = base[32 * (27 + k) + sb];
-    }
-}
-
-// The last nine slots of both base channels for the next frame's prediction; one base channel in both places.
-pub fn history<'a>(s: McSettings, left: &'a [f64], right: &'a [f64]) -> [f64; 576]
-    requires { ⌜ (length (now left) ≡ 1152) × (length (now right) ≡ cond (eqb (s .«base_channels») 1) 0 1152) ⌝ }
-    ensures { λ r. ⌜ r ≡ historyOf s (scaledBase (now (left .entry)) (now (right .entry))) ⌝ }
-{
-    let second = second_base(s.base_channels, left, right);
-    let mut values = [0.0f64; 576];
-    for line in 0usize..64 {
-        let base = chosen((line / 32) as u8, left, second);
-        store_line(base, line % 32, &mut values, 9 * line);
-    }
-    values
 }

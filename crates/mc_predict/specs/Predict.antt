@@ -17,6 +17,10 @@ use Rattle.mc_scale.specs.Scale.{Base, chosen, scaledAt}
 abbrev pub baseFor : McSettings → ℕ → ℕ
 baseFor s ch = cond (eqb (s .«base_channels») 1) 0 ch
 
+-- base channel ch at a slot and subband
+abbrev pub baseValue : McSettings → Base → ℕ → ℕ → ℕ → Float
+baseValue s base ch slot sb = getD (chosen (baseFor s ch) (base .scaledLeft) (base .scaledRight)) (32 * slot + sb) nan
+
 -- base channel ch at time t, 9 values of the history before the frame's 36; the history has channel ch and subband sb at (32 ch + sb) 9
 abbrev pub earlier : McSettings → Base → List Float → ℕ → ℕ → ℕ → Float
 earlier s base history ch sb t =

@@ -7,7 +7,8 @@ use Rattle.bits.specs.Syntax.{Refusal, plain, accepted, refused}
 use Rattle.mc_payload.specs.declared.McSettings.{McSettings}
 use Rattle.mc_payload.specs.Payload.{Codes}
 use Rattle.mc_scale.specs.Scale.{Base}
-use Rattle.mc_finish.specs.Output.{historyOf, channels}
+use Rattle.mc_finish.specs.Output.{channels}
+use Rattle.mc_history.specs.History.{historyOf}
 use Rattle.mc_state.specs.declared.McDecodeState.{McDecodeState}
 use Rattle.mc_state.specs.Frame.{Lent, Buffers, Verdict, refusal, changed, frame, After, answerOf, written, buffersOf, oneMore, stateOf, afterVerdict, verdictOf, frameOf}
 

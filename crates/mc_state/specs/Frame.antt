@@ -17,7 +17,8 @@ use Rattle.fill.specs.Each.{each}
 use Rattle.mc_payload.specs.Unpack.{settingsOf, loanFits, loanBy}
 use Rattle.mc_unpack.specs.Settled.{settledOf}
 use Rattle.mc_scale.specs.Scale.{Base}
-use Rattle.mc_finish.specs.Output.{workOf, outputOf, historyOf, channels}
+use Rattle.mc_finish.specs.Output.{workOf, outputOf, channels}
+use Rattle.mc_history.specs.History.{historyOf}
 use Rattle.mc_state.specs.declared.McDecodeState.{McDecodeState}
 
 -- what a frame call is lent, beside the state

@@ -12,9 +12,9 @@ use cursor::Cursor;
 use cursor::read;
 use mc_config::McConfig;
 use mc_crosstalk::dyn_cross_sources;
-use mc_crosstalk::npred_for;
 use mc_fields::McStatus;
 use mc_fields::bits_if;
+use mc_predictors::npred_for;
 
 pub struct TcRead {
     pub cursor: Cursor,

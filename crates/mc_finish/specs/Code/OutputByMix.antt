@@ -13,7 +13,6 @@ use Rattle.mc_config.specs.Groups.{sbgrOf}
 use Rattle.mc_payload.specs.declared.McSettings.{McSettings}
 use Rattle.mc_payload.specs.Places.{config, pair, msblimit}
 use Rattle.mc_finish.specs.declared.output.Mix.{Mix}
-use Rattle.mc_scale.specs.Scale.{chosen}
 use Rattle.mc_dematrix.specs.Dematrix.{dematrixed}
 use Rattle.mc_finish.specs.Output.{channels}
 
@@ -98,12 +97,3 @@ baseAloneAt x left right k = channelBy x (baseBy left right (k % 1152)) (k / 115
 
 unfoldable pub baseAlone : Mix → List Float → List Float → List Float
 baseAlone x left right = tab (baseAloneAt x left right) 5760
-
--- ---- the history, from the base channels that stand for both
-
--- slot 27 + k of a subband
-abbrev pub lineBy : List Float → ℕ → ℕ → Float
-lineBy base sb k = getD base (32 * (27 + k) + sb) nan
-
-abbrev pub historyBy : List Float → List Float → ℕ → Float
-historyBy left right i = getD (chosen (i / 288) left right) (32 * (27 + i % 9) + i % 288 / 9) nan

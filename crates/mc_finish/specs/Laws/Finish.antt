@@ -18,7 +18,7 @@ use Rattle.mc_payload.specs.Places.{pair, sourceAt, sourcesOf, basesOf}
 use Rattle.mc_payload.specs.Record.{Record}
 use Rattle.mc_scale.specs.Scale.{Base, scaledBase, chosen, scaledAt, scaledOf}
 use Rattle.mc_predict.specs.Predict.{withTerm, sumOf, workAt}
-use Rattle.mc_finish.specs.Output.{workOf, outputAt, outputOf, historyAt, historyOf}
+use Rattle.mc_finish.specs.Output.{workOf, outputAt, outputOf}
 use Rattle.mc_predict.specs.Laws.Chosen.{crossed-long}
 use Rattle.mc_scale.specs.Laws.ScaleByPlace.{source-at, base-at, scaled-by-place}
 use Rattle.mc_scale.specs.Code.ScaleByPlace.{factorsOf, scaledByPlace}
@@ -53,10 +53,6 @@ bases-long s b fits i h = rw (base-at s i h) (crossed-long s (i % 3) (i / 3) (b 
 pub output-scaled : (s : McSettings) (b : Base) (work : List Float) {output : List Float} → output ≡ outputOf s (scaledBase (b .scaledLeft) (b .scaledRight)) work → output ≡ outputOf s b work
 unfolding outputOf outputAt
 output-scaled s b work e = e
-
-pub history-scaled : (s : McSettings) (b : Base) → historyOf s (scaledBase (b .scaledLeft) (b .scaledRight)) ≡ historyOf s b
-unfolding historyOf historyAt
-history-scaled s b = refl
 
 pub work-record : (s : McSettings) (r : Record) (b : Base) (history : List Float) → workOf s (recordFrom (r .raw) (r .scalefactor) (r .delay) (r .coef)) b history ≡ workOf s r b history
 unfolding workOf workAt sumOf withTerm scaledAt

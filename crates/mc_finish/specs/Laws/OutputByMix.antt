@@ -23,9 +23,9 @@ use Rattle.mc_payload.specs.declared.McSettings.{McSettings}
 use Rattle.mc_payload.specs.Places.{config, pair}
 use Rattle.mc_finish.specs.declared.output.Mix.{Mix}
 use Rattle.mc_scale.specs.Scale.{Base, chosen}
-use Rattle.mc_predict.specs.Predict.{baseFor}
+use Rattle.mc_predict.specs.Predict.{baseFor, baseValue}
 use Rattle.mc_dematrix.specs.Dematrix.{dematrixed, passed, weighted, unweighted}
-use Rattle.mc_finish.specs.Output.{baseValue, mainAt, mixedAt, channels, second, outputAt, outputOf}
+use Rattle.mc_finish.specs.Output.{mainAt, mixedAt, channels, second, outputAt, outputOf}
 use Rattle.mc_finish.specs.Code.OutputByMix.{mixOf, tcsOf, mixedBy, SecondFits, secondBy, channelBy, outputBy, mixedOfAt}
 use Rattle.mc_predict.specs.Laws.Chosen.{first-base}
 use Rattle.mc_scale.specs.Code.Strided.{across}

@@ -11,9 +11,9 @@ use Rattle.mc_crosstalk.specs.Crosstalk.{sources1, sources2, sources3, predicte
 use Rattle.mc_crosstalk.specs.Crosstalk
 use Rattle.mc_crosstalk.specs.CrosstalkLaws.{sources-pass, predicted-below, predicted-most}
 use Rattle.mc_config.specs.ConfigLaws.{main-most}
-use Rattle.mc_crosstalk.specs.CrosstalkRecords.{channelsRecord}
+use Rattle.mc_predictors.specs.Channels.{channelsRecord}
 use Rattle.mc_config.specs.RecordsLaws.{padded-at}
-use Rattle.mc_crosstalk.specs.declared.predictors.Channels.{Channels}
+use Rattle.mc_predictors.specs.declared.Channels.{Channels}
 use Rattle.mc_config.specs.TableLaws.{every, every-at}
 use Rattle.mc_predict.specs.Predict.{placeIn}
 

@@ -6,7 +6,7 @@ use Rattle.mc_body.proofs.unpacked.unpacked_frame.Statement.{statement}
 use Rattle.mc_body.proofs.unpacked.unpacked_frame.Tie as tie
 use Rattle.mc_body.proofs.unpacked.unpacked_frame.Reads as reads
 use Rattle.mc_body.proofs.unpacked.unpacked_frame.Lts as lts
-use Rattle.mc_finish.proofs.history.Reads as history-reads
+use Rattle.mc_history.proofs.history.Reads as history-reads
 use Rattle.mc_body.proofs.unpacked.channel_count.Reads as channel-count-reads
 use Rattle.mc_body.proofs.unpacked.layout_follows.Reads as layout-follows-reads
 use Rattle.mc_state.proofs.one_more.Reads as one-more-reads

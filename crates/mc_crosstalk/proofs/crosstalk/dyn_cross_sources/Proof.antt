@@ -15,7 +15,7 @@ use Rattle.mc_crosstalk.specs.CrosstalkLaws.{sources-count}
 use Rattle.mc_config.specs.Records.{padded}
 use Rattle.mc_crosstalk.specs.CrosstalkRecords.{sourcesRecord}
 use Rattle.mc_crosstalk.specs.declared.crosstalk.Sources.{Sources}
-use Rattle.mc_crosstalk.proofs.Pairs.{rest-other}
+use Rattle.mc_config.specs.CaseLaws.{rest-other}
 use Rattle.mc_crosstalk.proofs.crosstalk.dyn_cross_sources.Statement.{statement}
 use Rattle.mc_crosstalk.proofs.crosstalk.dyn_cross_sources.Tie as tie
 

@@ -1,11 +1,11 @@
--- `output::store_line` meets its contract. The loop writes nine places in a row.
+-- `store_line` meets its contract. The loop writes nine places in a row.
 use mathlib.Core.Path.{_≡_, refl}
 use Prim.Native.Nat.{_+_, _-_, _*_}
-use Rattle.mc_finish.specs.Code.OutputByMix.{lineBy}
+use Rattle.mc_history.specs.HistoryBy.{lineBy}
 use Rattle.mc_scale.specs.Laws.Strided.{Striding, stride-starts, stride-more, stride-ends}
 use native.Mathlib.Omega.{arith}
-use Rattle.mc_finish.proofs.output.store_line.Statement.{statement}
-use Rattle.mc_finish.proofs.output.store_line.Tie as tie
+use Rattle.mc_history.proofs.store_line.Statement.{statement}
+use Rattle.mc_history.proofs.store_line.Tie as tie
 
 abbrev Inv-loop : tie.InvT-loop
 Inv-loop base sb values₀ at k₀ values k = Striding 1 9 (lineBy base sb) at values₀ values k

@@ -13,8 +13,8 @@ use Rattle.mc_config.specs.CaseLaws.{cond-all}
 use Rattle.mc_payload.specs.declared.McSettings.{McSettings}
 use Rattle.mc_scale.specs.Scale.{Base, chosen}
 use Rattle.mc_predict.specs.Predict.{baseFor}
-use Rattle.mc_finish.specs.Output.{channels, second, historyAt, historyOf}
-use Rattle.mc_finish.specs.Code.OutputByMix.{lineBy, historyBy}
+use Rattle.mc_history.specs.History.{historyAt, historyOf}
+use Rattle.mc_history.specs.HistoryBy.{lineBy, historyBy}
 use Rattle.mc_predict.specs.Laws.Chosen.{chosen-base}
 use Rattle.mc_scale.specs.Code.Strided.{strided}
 use Rattle.mc_scale.specs.Laws.Strided.{length-strided, getD-strided, strided-other}

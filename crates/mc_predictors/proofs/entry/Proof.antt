@@ -2,8 +2,8 @@
 use mathlib.Core.Path.{sym}
 use lib.ListN.{List·getD-eq-default}
 use borrow.Author.Needs.{needs}
-use Rattle.mc_crosstalk.proofs.predictors.entry.Statement.{statement}
-use Rattle.mc_crosstalk.proofs.predictors.entry.Tie as tie
+use Rattle.mc_predictors.proofs.entry.Statement.{statement}
+use Rattle.mc_predictors.proofs.entry.Tie as tie
 
 mul-result : tie.Need-mul-result
 mul-result c = search needs

@@ -6,16 +6,16 @@ use Prim.Native.Nat.{ℕ, _/_}
 use native.Mathlib.Omega.{arith}
 use borrow.Author.Needs.{needs}
 use lib.ListN.{getD, length, List·getD-map}
 use Rattle.mc_crosstalk.specs.Crosstalk.{predictedOf, predictorsOf}
 use Rattle.mc_crosstalk.specs.CrosstalkLaws.{predictors-even, predicted-other}
 use Rattle.mc_crosstalk.specs.Predictors.{predictable1, predictable2, predictable3, predictableRows, predictableTable}
 use Rattle.mc_crosstalk.specs.PredictorsLaws.{predictable-agrees}
 use Rattle.mc_config.specs.Records.{padded}
-use Rattle.mc_crosstalk.specs.CrosstalkRecords.{channelsRecord}
-use Rattle.mc_crosstalk.specs.declared.predictors.Channels.{Channels}
-use Rattle.mc_crosstalk.proofs.Pairs.{rest-other}
-use Rattle.mc_crosstalk.proofs.predictors.predictable_channels.Statement.{statement}
-use Rattle.mc_crosstalk.proofs.predictors.predictable_channels.Tie as tie
+use Rattle.mc_predictors.specs.Channels.{channelsRecord}
+use Rattle.mc_predictors.specs.declared.Channels.{Channels}
+use Rattle.mc_config.specs.CaseLaws.{rest-other}
+use Rattle.mc_predictors.proofs.predictable_channels.Statement.{statement}
+use Rattle.mc_predictors.proofs.predictable_channels.Tie as tie
 
 -- a row of the pair's table, with fillers, and half the number of predictors
 whole : (pair mode : ℕ) {npred : ℕ} {r : Channels} → npred ≡ predictorsOf pair mode → (r .count ≡ npred / 2) × (r .channels ≡ getD (map (padded 3 0) (predictableRows pair)) mode (padded 3 0 [])) → r ≡ channelsRecord pair mode

@@ -2,9 +2,9 @@
 ghost use mathlib.Core.Path.{_≡_};
 ghost use mathlib.Core.List.{[]};
 ghost use lib.ListN.{getD};
 ghost use Rattle.mc_crosstalk.specs.Crosstalk.{predictorsOf};
 ghost use Rattle.mc_config.specs.Records.{padded};
-ghost use Rattle.mc_crosstalk.specs.CrosstalkRecords.{channelsRecord};
+ghost use Rattle.mc_predictors.specs.Channels.{channelsRecord};
 use mc_config::McConfig;
 
 // The standard's table of predictors, by dyn_cross_mode.

@@ -1,13 +1,13 @@
 -- `predictors::npred_for` meets its contract.
 use mathlib.Core.Path.{_∙_, sym}
 use mathlib.Core.Logic.{⊎-elim}
 use Rattle.mc_crosstalk.specs.CrosstalkLaws.{predictors-other}
 use Rattle.mc_crosstalk.specs.Predictors.{npredTable, npred1, npred2, npred3}
 use Rattle.mc_crosstalk.specs.PredictorsLaws.{npred-agrees}
-use Rattle.mc_crosstalk.proofs.Pairs.{rest-other}
+use Rattle.mc_config.specs.CaseLaws.{rest-other}
 use borrow.Author.Needs.{needs}
-use Rattle.mc_crosstalk.proofs.predictors.npred_for.Statement.{statement}
-use Rattle.mc_crosstalk.proofs.predictors.npred_for.Tie as tie
+use Rattle.mc_predictors.proofs.npred_for.Statement.{statement}
+use Rattle.mc_predictors.proofs.npred_for.Tie as tie
 
 slice-aggregate-entry : tie.Need-slice-aggregate-entry
 slice-aggregate-entry c = search needs

@@ -5,8 +5,8 @@ use borrow.Author.Needs.{needs}
 use lib.ListN.{List·getD-eq-default}
 use Rattle.mc_config.specs.Records.{padded}
 use Rattle.mc_config.specs.TableLaws.{getD-default}
-use Rattle.mc_crosstalk.proofs.predictors.channels_in.Statement.{statement}
-use Rattle.mc_crosstalk.proofs.predictors.channels_in.Tie as tie
+use Rattle.mc_predictors.proofs.channels_in.Statement.{statement}
+use Rattle.mc_predictors.proofs.channels_in.Tie as tie
 
 mul-channels : tie.Need-mul-channels
 mul-channels c = search needs

@@ -1,4 +1,4 @@
--- `output::history` meets its contract. The loop writes a line of nine a turn.
+-- `history` meets its contract. The loop writes a line of nine a turn.
 use mathlib.Core.Path.{_≡_, _∙_, ap, refl}
 use Prim.Native.Nat.{ℕ, _-_, _/_, _≤_}
 use lib.Dec.{eqb}
@@ -8,12 +8,12 @@ use borrow.Author.Needs.{needs}
 use Rattle.fill.specs.ByTurn.{ByTurn, turn-starts}
 use Rattle.mc_scale.specs.Scale.{scaledBase}
 use Rattle.mc_predict.specs.Laws.Chosen.{chosen-long}
-use Rattle.mc_finish.specs.Code.OutputByMix.{historyBy}
-use Rattle.mc_finish.specs.Laws.History.{turn-line, line-long, lines-end, history-kept}
+use Rattle.mc_history.specs.HistoryBy.{historyBy}
+use Rattle.mc_history.specs.HistoryLaws.{turn-line, line-long, lines-end, history-kept}
 use Rattle.mc_scale.specs.Laws.Strided.{length-strided}
 use native.Mathlib.Omega.{arith}
-use Rattle.mc_finish.proofs.output.history.Statement.{statement}
-use Rattle.mc_finish.proofs.output.history.Tie as tie
+use Rattle.mc_history.proofs.history.Statement.{statement}
+use Rattle.mc_history.proofs.history.Tie as tie
 
 abbrev Inv-loop : tie.InvT-loop
 Inv-loop left right second values₀ line₀ values line = (line ≤ 64) × (length values ≡ 576) × ByTurn nan (λ (k : ℕ). k / 9) (historyBy left second) 576 values₀ values line

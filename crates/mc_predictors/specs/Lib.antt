@@ -1,0 +1,2 @@
+-- The predicted channels as the code returns them.
+pub mod Channels
