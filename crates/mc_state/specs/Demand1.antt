@@ -1,56 +1,68 @@
--- Demand 1 on the definition: what a refusal leaves, and what an accepted frame writes and stores.
-use mathlib.Core.Path.{_≡_, refl}
-use mathlib.Core.Logic.{_⊎_, inl, inr}
-use Prim.Native.Nat.{ℕ}
-use native.Mathlib.Omega.{arith}
+-- Demand 1: what it says of a frame call that is refused, and of one that is accepted.
+pub mod Proof
+use mathlib.Core.Path.{_≡_}
+use mathlib.Core.Logic.{_⊎_}
+use Prim.Native.Nat.{ℕ, _≤_}
 use Rattle.bits.specs.Syntax.{Refusal, plain, accepted, refused}
+use Rattle.mc_config.specs.declared.McHeader.{McHeader}
+use Rattle.mc_fields.specs.declared.McStatus.{McStatus}
+use Rattle.mc_fields.specs.Lent.{headOf}
 use Rattle.mc_payload.specs.declared.McSettings.{McSettings}
 use Rattle.mc_payload.specs.Payload.{Codes}
-use Rattle.mc_scale.specs.Scale.{Base}
+use Rattle.mc_unpack.specs.Settled.{settledOf}
 use Rattle.mc_finish.specs.Output.{channels}
 use Rattle.mc_history.specs.History.{historyOf}
 use Rattle.mc_state.specs.declared.McDecodeState.{McDecodeState}
-use Rattle.mc_state.specs.Frame.{Lent, Buffers, Verdict, refusal, changed, frame, After, answerOf, written, buffersOf, oneMore, stateOf, afterVerdict, verdictOf, frameOf}
+use Rattle.mc_state.specs.Frame.{Lent, Buffers, After, settingsFor, written, oneMore, frameOf}
+
+-- what was found in head and payload, and in how many bits of each
+pub record Found (l : Lent) (s : McSettings) (c : Codes) (headUsed used : ℕ) : Type 0 where
+  pub header : McHeader
+  pub word : ℕ
+  pub status : McStatus
+  pub head : headOf (l .head) (l .headBits) (l .baseChannels) ≡ accepted (header, (word, status)) headUsed
+  pub settings : s ≡ settingsFor l header status
+  pub payload : settledOf s (l .payload) (l .payloadBits) ≡ accepted c used
+
+-- a number from 1 to 8; a group and a code under 2 alone
+pub record Numbered (x : Refusal) : Type 0 where
+  pub least : 1 ≤ x .number
+  pub most : x .number ≤ 8
+  pub bare : (x .number ≡ 2) ⊎ (x ≡ plain (x .number))
 
 -- the base's last nine slots are in the history, and nothing else has changed
-pub record Stored (base : Base) (st st′ : McDecodeState) : Type 0 where
+pub record Stored (l : Lent) (st st′ : McDecodeState) : Type 0 where
   pub settings : McSettings
-  pub history : st′ .«pred_hist» ≡ historyOf settings base
+  pub codes : Codes
+  pub headUsed : ℕ
+  pub used : ℕ
+  pub found : Found l settings codes headUsed used
+  pub history : st′ .«pred_hist» ≡ historyOf settings (l .base)
   pub layout : st′ .«layout_len» ≡ st .«layout_len»
   pub count : st′ .accepted ≡ st .accepted
 
--- the buffers are as they were, and so is the state, but after refusal 5
-pub record Left (x : Refusal) (base : Base) (w : Buffers) (st : McDecodeState) (a : After) : Type 0 where
+-- after refusal x the buffers are as they were, and so is the state, but that refusal 5 has stored the history
+pub record Left (x : Refusal) (l : Lent) (w : Buffers) (st : McDecodeState) (a : After) : Type 0 where
+  pub numbered : Numbered x
   pub buffers : a .buffers ≡ w
-  pub state : (a .state ≡ st) ⊎ ((x ≡ plain 5) × Stored base st (a .state))
+  pub state : (x ≡ plain 5 → ⊥) → a .state ≡ st
+  pub stored : x ≡ plain 5 → Stored l st (a .state)
 
--- the buffers and the state hold what one reading of head and payload gives
-pub record Written (base : Base) (st : McDecodeState) (a : After) : Type 0 where
+-- the buffers and the state hold what head and payload say
+pub record Written (l : Lent) (st : McDecodeState) (headUsed used : ℕ) (a : After) : Type 0 where
   pub settings : McSettings
   pub codes : Codes
-  pub buffers : a .buffers ≡ written settings codes base (st .«pred_hist»)
-  pub history : a .state .«pred_hist» ≡ historyOf settings base
+  pub found : Found l settings codes headUsed used
+  pub buffers : a .buffers ≡ written settings codes (l .base) (st .«pred_hist»)
+  pub history : a .state .«pred_hist» ≡ historyOf settings (l .base)
   pub layout : a .state .«layout_len» ≡ channels settings
   pub count : a .state .accepted ≡ oneMore (st .accepted)
 
-module _ (base : Base) (w : Buffers) (st : McDecodeState) where
-  left-by : (v : Verdict) (x : Refusal) → answerOf v ≡ refused x → Left x base w st (afterVerdict v base w st)
-  unfolding answerOf buffersOf stateOf
-  left-by (refusal r) x e = record { buffers = refl; state = inl refl }
-  left-by (changed s) x e = record { buffers = refl; state = inr (cc, record { settings = s; history = refl; layout = refl; count = refl }) }
-  left-by (frame s c h u) x e = let z : _≡_ {A = ℕ} 0 1 = cc in absurd (omega arith)
+abbrev pub RefusedLeaves : Type 0
+RefusedLeaves = (l : Lent) (w : Buffers) (st : McDecodeState) (x : Refusal) → frameOf l w st .answer ≡ refused x → Left x l w st (frameOf l w st)
 
-  written-by : (v : Verdict) (h u : ℕ) → answerOf v ≡ accepted h u → Written base st (afterVerdict v base w st)
-  unfolding answerOf buffersOf stateOf
-  written-by (refusal r) h u e = let z : _≡_ {A = ℕ} 0 1 = cc in absurd (omega arith)
-  written-by (changed s) h u e = let z : _≡_ {A = ℕ} 0 1 = cc in absurd (omega arith)
-  written-by (frame s c headUsed used) h u e = record { settings = s; codes = c; buffers = refl; history = refl; layout = refl; count = refl }
-
-module _ (l : Lent) (w : Buffers) (st : McDecodeState) where
-  pub refused-leaves : (x : Refusal) → frameOf l w st .answer ≡ refused x → Left x (l .base) w st (frameOf l w st)
-  unfolding frameOf
-  refused-leaves x e = left-by (l .base) w st (verdictOf l w st) x e
-
-  pub accepted-writes : (h u : ℕ) → frameOf l w st .answer ≡ accepted h u → Written (l .base) st (frameOf l w st)
-  unfolding frameOf
-  accepted-writes h u e = written-by (l .base) w st (verdictOf l w st) h u e
+abbrev pub AcceptedWrites : Type 0
+AcceptedWrites =
+    (l : Lent) (w : Buffers) (st : McDecodeState) (headUsed used : ℕ)
+    → frameOf l w st .answer ≡ accepted headUsed used
+    → Written l st headUsed used (frameOf l w st)

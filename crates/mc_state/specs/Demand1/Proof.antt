@@ -1,0 +1,164 @@
+-- Demand 1 holds.
+use mathlib.Core.Path.{_≡_, refl, ap}
+use mathlib.Core.Bool.{Bool, true, false, _&&_, cond}
+use mathlib.Core.List.{List}
+use mathlib.Core.Logic.{_⊎_, inl, inr, ⊎-elim}
+use Prim.Native.Nat.{ℕ, _≤_}
+use native.Mathlib.Omega.{arith}
+use Rattle.bits.specs.Syntax.{Refusal, plain, Outcome, accepted, refused, run}
+use Rattle.bits.specs.Yields.{refused-yields}
+use Rattle.mc_config.specs.declared.McHeader.{McHeader}
+use Rattle.mc_fields.specs.declared.McStatus.{McStatus}
+use Rattle.mc_fields.specs.Head.{head}
+use Rattle.mc_fields.specs.HeadYields.{head-refused}
+use Rattle.mc_fields.specs.StatusYields.{Forbids}
+use Rattle.mc_fields.specs.Lent.{stringFits, baseFits, headOf}
+use Rattle.mc_payload.specs.declared.McSettings.{McSettings}
+use Rattle.mc_payload.specs.Payload.{Codes}
+use Rattle.mc_payload.specs.PayloadYields.{payload-yields}
+use Rattle.mc_payload.specs.Unpack.{allocationsFit, payloadOf}
+use Rattle.mc_unpack.specs.Settled.{settledOf}
+use Rattle.mc_finish.specs.Output.{channels}
+use Rattle.mc_state.specs.declared.McDecodeState.{McDecodeState}
+use Rattle.mc_state.specs.Frame.{Lent, Buffers, Verdict, refusal, changed, frame, settingsFor, follows, lentFits, valuesFit, verdictUnpacked, verdictHead, verdictOf, answerOf, buffersOf, stateOf, afterVerdict, frameOf}
+use Rattle.mc_state.specs.Demand1.{Found, Numbered, Stored, Left, Written, RefusedLeaves, AcceptedWrites}
+
+-- ---- refusals before the layout is compared
+
+record Early (x : Refusal) : Type 0 where
+  numbered : Numbered x
+  before : x ≡ plain 5 → ⊥
+
+early-plain : (n : ℕ) → 1 ≤ n → n ≤ 8 → (n ≡ 5 → ⊥) → (x : Refusal) → x ≡ plain n → Early x
+early-plain n a b d x e =
+    rw e
+    (record {
+      numbered = record { least = a; most = b; bare = inr refl };
+      before = λ q. d (ap (λ (r : Refusal). r .number) q);
+    })
+
+early-1 : (x : Refusal) → x ≡ plain 1 → Early x
+early-1 = early-plain 1 (omega arith) (omega arith) (λ q. omega arith)
+
+forbids-early : (x : Refusal) → Forbids x → Early x
+forbids-early x f =
+    record {
+      numbered = record { least = omega (arith, f .number); most = omega (arith, f .number); bare = inl (f .number) };
+      before = λ q. let n : x .number ≡ 5 = ap (λ (r : Refusal). r .number) q in omega (arith, f .number);
+    }
+
+head-early : (bytes : List ℕ) (bits baseChannels : ℕ) (x : Refusal) → headOf bytes bits baseChannels ≡ refused x → Early x
+unfolding headOf
+head-early bytes bits baseChannels x = go (stringFits bytes bits && baseFits baseChannels)
+  where
+    go : (t : Bool) → cond t (run (head baseChannels) bytes bits 0) (refused (plain 6)) ≡ refused x → Early x
+    go true e = ⊎-elim (early-1 x) (forbids-early x) (head-refused baseChannels bytes bits 0 x e)
+    go false e = let q : x ≡ plain 6 = cc in early-plain 6 (omega arith) (omega arith) (λ z. omega arith) x q
+
+settled-early : (s : McSettings) (bytes : List ℕ) (bits : ℕ) (x : Refusal) → settledOf s bytes bits ≡ refused x → Early x
+unfolding settledOf payloadOf
+settled-early s bytes bits x = go (allocationsFit s)
+  where
+    go : (t : Bool) → cond t (run (payloadOf s) bytes bits 0) (refused (plain 8)) ≡ refused x → Early x
+    go true e =
+        ⊎-elim (early-1 x)
+        (λ h. ⊎-elim (early-plain 3 (omega arith) (omega arith) (λ z. omega arith) x) (early-plain 4 (omega arith) (omega arith) (λ z. omega arith) x) h)
+        (refused-yields (payload-yields _ _ _ _ _) bytes bits 0 x e)
+    go false e = let q : x ≡ plain 8 = cc in early-plain 8 (omega arith) (omega arith) (λ z. omega arith) x q
+
+-- ---- how each verdict comes about
+
+record Changed (l : Lent) (s : McSettings) : Type 0 where
+  codes : Codes
+  headUsed : ℕ
+  used : ℕ
+  found : Found l s codes headUsed used
+
+unfoldable Way : Lent → Verdict → Type 0
+Way l (refusal x) = Early x
+Way l (changed s) = Changed l s
+Way l (frame s c headUsed used) = Found l s c headUsed used
+
+module _ (l : Lent) (st : McDecodeState) where
+  way-unpacked :
+      (header : McHeader) (word : ℕ) (status : McStatus) (headUsed : ℕ)
+      → headOf (l .head) (l .headBits) (l .baseChannels) ≡ accepted (header, (word, status)) headUsed
+      → (o : Outcome Codes)
+      → settledOf (settingsFor l header status) (l .payload) (l .payloadBits) ≡ o
+      → Way l (verdictUnpacked st (settingsFor l header status) headUsed o)
+  unfolding Way verdictUnpacked
+  way-unpacked header word status headUsed eh (refused x) e = settled-early _ _ _ x e
+  way-unpacked header word status headUsed eh (accepted c used) e = go (follows (st .«layout_len») (channels (settingsFor l header status)))
+    where
+      found : Found l (settingsFor l header status) c headUsed used
+      found = record { header = header; word = word; status = status; head = eh; settings = refl; payload = e }
+
+      go : (t : Bool) → Way l (cond t (frame (settingsFor l header status) c headUsed used) (changed (settingsFor l header status)))
+      go true = found
+      go false = record { codes = c; headUsed = headUsed; used = used; found = found }
+
+  way-head :
+      (o : Outcome (McHeader × (ℕ × McStatus)))
+      → headOf (l .head) (l .headBits) (l .baseChannels) ≡ o
+      → Way l (verdictHead l st o)
+  unfolding Way verdictHead
+  way-head (refused x) e = head-early _ _ _ x e
+  way-head (accepted (header, (word, status)) headUsed) e = way-unpacked header word status headUsed e _ refl
+
+  way : (w : Buffers) → Way l (verdictOf l w st)
+  unfolding Way verdictOf
+  way w = loan (lentFits l w st)
+    where
+      values : (t : Bool) → Way l (cond t (verdictHead l st (headOf (l .head) (l .headBits) (l .baseChannels))) (refusal (plain 7)))
+      values true = way-head _ refl
+      values false = early-plain 7 (omega arith) (omega arith) (λ z. omega arith) (plain 7) refl
+
+      loan : (t : Bool) → Way l (cond t (cond (valuesFit (l .base) (st .«pred_hist»)) (verdictHead l st (headOf (l .head) (l .headBits) (l .baseChannels))) (refusal (plain 7))) (refusal (plain 6)))
+      loan true = values (valuesFit (l .base) (st .«pred_hist»))
+      loan false = early-plain 6 (omega arith) (omega arith) (λ z. omega arith) (plain 6) refl
+
+-- ---- what each leaves
+
+module _ (l : Lent) (w : Buffers) (st : McDecodeState) where
+  left-by : (v : Verdict) → Way l v → (x : Refusal) → answerOf v ≡ refused x → Left x l w st (afterVerdict v (l .base) w st)
+  unfolding Way answerOf buffersOf stateOf
+  left-by (refusal r) h x e =
+      let q : r ≡ x = cc in
+      let f : Early x = rw q at h in
+      record { numbered = f .numbered; buffers = refl; state = λ _. refl; stored = λ z. absurd (f .before z) }
+  left-by (changed s) h x e =
+      let q : x ≡ plain 5 = cc in
+      record {
+        numbered = rw q (record { least = omega arith; most = omega arith; bare = inr refl });
+        buffers = refl;
+        state = λ n. absurd (n q);
+        stored =
+            λ _. record {
+              settings = s;
+              codes = h .codes;
+              headUsed = h .headUsed;
+              used = h .used;
+              found = h .found;
+              history = refl;
+              layout = refl;
+              count = refl;
+            };
+      }
+  left-by (frame s c headUsed used) h x e = let z : _≡_ {A = ℕ} 0 1 = cc in absurd (omega arith)
+
+  written-by : (v : Verdict) → Way l v → (headUsed used : ℕ) → answerOf v ≡ accepted headUsed used → Written l st headUsed used (afterVerdict v (l .base) w st)
+  unfolding Way answerOf buffersOf stateOf
+  written-by (refusal r) h headUsed used e = let z : _≡_ {A = ℕ} 0 1 = cc in absurd (omega arith)
+  written-by (changed s) h headUsed used e = let z : _≡_ {A = ℕ} 0 1 = cc in absurd (omega arith)
+  written-by (frame s c n u) h headUsed used e =
+      let en : n ≡ headUsed = cc in
+      let eu : u ≡ used = cc in
+      record { settings = s; codes = c; found = rw (en, eu) at h; buffers = refl; history = refl; layout = refl; count = refl }
+
+pub refused-leaves : RefusedLeaves
+unfolding frameOf
+refused-leaves l w st x e = left-by l w st (verdictOf l w st) (way l st w) x e
+
+pub accepted-writes : AcceptedWrites
+unfolding frameOf
+accepted-writes l w st headUsed used e = written-by l w st (verdictOf l w st) (way l st w) headUsed used e
