@@ -47,6 +47,7 @@ fn main() {
     }
     if env::var_os("CARGO_FEATURE_LEAVES").is_some() {
         link("leaves", "leaves");
+        link("leaves", "class_leaves");
     }
     if env::var_os("CARGO_FEATURE_PARTS").is_some() {
         link("heads", "parts");

@@ -6,7 +6,6 @@ pub mod Unique
 pub mod Table
 pub mod TableFill
 pub mod Theorems
-pub mod Answer
 pub mod Yields
 pub mod Width
 pub mod Entries

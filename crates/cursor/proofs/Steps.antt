@@ -5,10 +5,10 @@ use mathlib.Core.List.{List}
 use Prim.Native.Nat.{ℕ, _+_}
 use lib.Dec.{leb}
 use borrow.Author.Tests.{eq-eqb, ne-eqb}
-use Rattle.bits.specs.Answer.{readAt}
+use Rattle.bit_reader.specs.Answer.{readAt}
 use Rattle.cursor.specs.Cursor.{step, refuseIf}
-use Rattle.bits.specs.declared.BitRead.{BitRead}
-use Rattle.bits.specs.declared.BitRead.the-variants.{Value, Short}
+use Rattle.bit_reader.specs.declared.BitRead.{BitRead}
+use Rattle.bit_reader.specs.declared.BitRead.the-variants.{Value, Short}
 use Rattle.cursor.specs.declared.Cursor.{Cursor}
 
 -- the cursor that a read's answer makes

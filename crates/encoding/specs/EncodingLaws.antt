@@ -13,7 +13,9 @@ use lib.Ieee.Bits.{nanBits-is, nanBits-above}
 use lib.ListN.{length, drop, getD, drop-of-length-le}
 use lib.Pow.{pow-add, pow-mono}
 use lib.Seq.{drop-cons}
-use Rattle.encoding.specs.Encoding.{lowestFirst, hashByte, hashBytes, hashNumber, hashFloats}
+use mir.Syntax.{w8}
+use mir.Val.{Fits}
+use Rattle.encoding.specs.Encoding.{lowestFirst, numberAt, hashByte, hashBytes, hashNumber, hashFloats}
 
 -- a loop that reads n bytes from the last to the first has read those from k on
 pub record ReadFrom (bytes : List ℕ) (at n k value : ℕ) : Type 0 where
@@ -46,6 +48,16 @@ module _ (bytes : List ℕ) (at n : ℕ) where
 
   pub read-ends : (k value : ℕ) → k ≤ 0 → ReadFrom bytes at n k value → value ≡ lowestFirst bytes at n
   read-ends k value h p = let z : k ≡ 0 = omega arith in let a : at + k ≡ at = omega arith in let m : n - k ≡ n = omega arith in rw (a, m) at (p .is)
+
+-- one byte and four fit their widths
+module _ (bytes : List ℕ) (at : ℕ) (small : (i : ℕ) → Fits w8 (getD bytes i 0)) where
+  pub one-fits : numberAt bytes at 1 < 256
+  unfolding lowestFirst
+  one-fits = omega (arith, small at)
+
+  pub four-fits : numberAt bytes at 4 < 4294967296
+  unfolding lowestFirst
+  four-fits = omega (arith, small at, small (suc at), small (suc (suc at)), small (suc (suc (suc at))))
 
 -- the product by 435 + 2^40, put together from three parts
 pub product : (h : ℕ)

@@ -1,9 +1,9 @@
-// Numbers and floats as bytes, lowest byte first, and a hash over them.
+// Numbers and floats as bytes, lowest byte first.
 ghost use mathlib.Core.Path.{_≡_};
 ghost use Prim.Native.Nat.{_+_, _*_, _%_, _≤_, min};
 ghost use lib.ListN.{getD};
 ghost use lib.Ieee.{toBits, ofBits, binary64};
-ghost use Rattle.encoding.specs.Encoding.{numberAt, hashByte, hashNumber, hashFloats};
+ghost use Rattle.encoding.specs.Encoding.{numberAt};
 
 // The byte at `at + k`; 0 past the end.
 fn byte_at(bytes: &[u8], at: usize, k: usize) -> u64
@@ -38,6 +38,19 @@ pub fn number_at(bytes: &[u8], at: usize, n: usize) -> u64
     value
 }
 
+// A byte, and four as a number.
+pub fn u8_at(bytes: &[u8], at: usize) -> u8
+    ensures { λ r. ⌜ r ≡ numberAt (now (bytes .entry)) at 1 ⌝ }
+{
+    number_at(bytes, at, 1) as u8
+}
+
+pub fn u32_at(bytes: &[u8], at: usize) -> u32
+    ensures { λ r. ⌜ r ≡ numberAt (now (bytes .entry)) at 4 ⌝ }
+{
+    number_at(bytes, at, 4) as u32
+}
+
 // The bit pattern; of a NaN that of the quiet NaN with no sign and no payload.
 pub fn bits_of(x: f64) -> u64
     ensures { λ r. ⌜ r ≡ toBits binary64 x ⌝ }
@@ -58,49 +71,4 @@ pub fn float_of(bits: u64) -> f64
     } else {
         f64::from_bits(bits)
     }
-}
-
-// The product by 435 + 2^40, modulo 2^64.
-fn times_prime(h: u64) -> u64
-    ensures { λ r. ⌜ r ≡ (h * 1099511628211) % 18446744073709551616 ⌝ }
-{
-    let low = (h % 4294967296) * 435;
-    let high = ((h / 4294967296 * 435) % 4294967296) * 4294967296;
-    let shifted = (h % 16777216) * 1099511627776;
-    std::num::wrapping_add_u64(std::num::wrapping_add_u64(low, high), shifted)
-}
-
-// The hash h, one byte more.
-fn hash_byte(h: u64, byte: u64) -> u64
-    ensures { λ r. ⌜ r ≡ hashByte h byte ⌝ }
-{
-    times_prime(h ^ byte)
-}
-
-// The hash h, the eight bytes of n more.
-pub fn hash_number(h: u64, n: u64) -> u64
-    ensures { λ r. ⌜ r ≡ hashNumber h n ⌝ }
-{
-    let mut hash = h;
-    let mut rest = n;
-    let mut left = 8usize;
-    while 0 < left {
-        hash = hash_byte(hash, rest % 256);
-        rest = rest / 256;
-        left -= 1;
-    }
-    hash
-}
-
-// The hash h, the bit patterns of all floats more.
-pub fn hash_floats(h: u64, xs: &[f64]) -> u64
-    ensures { λ r. ⌜ r ≡ hashFloats h (now (xs .entry)) ⌝ }
-{
-    let mut hash = h;
-    let mut i = 0usize;
-    while i < xs.len() {
-        hash = hash_number(hash, bits_of(xs[i]));
-        i += 1;
-    }
-    hash
 }

@@ -1,32 +1,19 @@
--- Laws of a frame file: numbers fit their widths, each test of an opening, and what numbers without a fault are.
+-- Laws of a frame file: each test of an opening, and what numbers without a fault are.
 use mathlib.Core.Path.{_≡_, refl}
 use mathlib.Core.Bool.{Bool, true, false, cond}
 use mathlib.Core.List.{List}
 use mathlib.Core.Logic.{⊎-elim}
-use Prim.Native.Nat.{ℕ, suc, _≤_, _<_}
+use Prim.Native.Nat.{ℕ, _≤_, _<_}
 use native.Mathlib.Nat.{eq-zero-or-pos}
 use native.Mathlib.Omega.{arith}
 use borrow.Author.Tests.{ltb-false, eqb-false, lt-ltb, le-ltb, eq-eqb, ne-eqb}
 use lib.Dec.{eqb, ltb}
-use lib.ListN.{length, getD}
-use mir.Syntax.{w8}
-use mir.Val.{Fits}
+use lib.ListN.{length}
 use Rattle.encoding.specs.Encoding.{lowestFirst, numberAt}
 use Rattle.fill.specs.Tab.{tab}
 use Rattle.frame_file.specs.declared.numbers.Numbers.{Numbers}
 use Rattle.fill.specs.Ascii.{ascii}
 use Rattle.frame_file.specs.File.{openingFault, faultOf}
-
--- ---- numbers
-
-module _ (bytes : List ℕ) (at : ℕ) (small : (i : ℕ) → Fits w8 (getD bytes i 0)) where
-  pub one-fits : numberAt bytes at 1 < 256
-  unfolding lowestFirst
-  one-fits = omega (arith, small at)
-
-  pub four-fits : numberAt bytes at 4 < 4294967296
-  unfolding lowestFirst
-  four-fits = omega (arith, small at, small (suc at), small (suc (suc at)), small (suc (suc (suc at))))
 
 -- ---- the opening
 

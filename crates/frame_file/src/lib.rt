@@ -17,5 +17,3 @@ pub use numbers::fill_steps;
 pub use numbers::fill_values;
 pub use numbers::numbers_of;
 pub use numbers::opening_fault;
-pub use numbers::u8_at;
-pub use numbers::u32_at;

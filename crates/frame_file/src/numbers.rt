@@ -7,6 +7,8 @@ ghost use Rattle.fill.specs.Tab.{tab};
 ghost use Rattle.frame_file.specs.File.{openingFault, numbersOf, faultOf, bodyBytes, stepAt, valueAt};
 use encoding::float_of;
 use encoding::number_at;
+use encoding::u8_at;
+use encoding::u32_at;
 
 // The letters MCFRAMES as a number, lowest byte first.
 const LETTERS: u64 = 0x53454D415246434D;
@@ -38,18 +40,6 @@ pub struct Numbers {
     pub head_bits: u32,
     pub payload_bytes: u32,
     pub payload_bits: u32,
-}
-
-pub fn u8_at(bytes: &[u8], at: usize) -> u8
-    ensures { λ r. ⌜ r ≡ numberAt (now (bytes .entry)) at 1 ⌝ }
-{
-    number_at(bytes, at, 1) as u8
-}
-
-pub fn u32_at(bytes: &[u8], at: usize) -> u32
-    ensures { λ r. ⌜ r ≡ numberAt (now (bytes .entry)) at 4 ⌝ }
-{
-    number_at(bytes, at, 4) as u32
 }
 
 // What is wrong with the bytes of an opening, all that could be read of them.

@@ -3,7 +3,7 @@ ghost use mathlib.Core.Path.{_≡_};
 ghost use Prim.Native.Nat.{_%_};
 ghost use Rattle.io.specs.Digits.{digits, glyph};
 ghost use Rattle.frame_summary.specs.Summary.{magnitude as Summary·magnitude, peakOf, nonzeroOf, wholeOf, millionthsOf, summaryOf};
-use encoding::hash_floats;
+use hash::hash_floats;
 
 // FNV-1a before the first byte.
 const HASH_START: u64 = 0xCBF29CE484222325;

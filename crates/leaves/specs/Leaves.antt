@@ -16,10 +16,6 @@ plusZero = fin false 0 (pos 0)
 abbrev pub scalefactorLeaf : ℕ → Float
 scalefactorLeaf index = cond (ltb index 63) (scalefactorOf index) plusZero
 
--- The columns of a class are those of `bitalloc`: a number of steps that is no class's has 0 in each. A flag is 1 or 0.
-abbrev pub groupingLeaf : ℕ → ℕ
-groupingLeaf steps = cond (grouped steps) 1 0
-
 abbrev pub requantizeLeaf : ℕ → ℕ → Float
 requantizeLeaf steps code = cond (isClass steps && ltb code (2 ^ bitsPerSample steps)) (rawOf steps code) plusZero
 

@@ -1,13 +1,11 @@
-// The scalefactors, the classes and the requantizer for other languages. Each function takes any input: where an argument
+// The scalefactors and the requantizer for other languages. Each function takes any input: where an argument
 // is outside its range, it answers 0, and a float answer is +0.
 ghost use mathlib.Core.Path.{_≡_};
 ghost use Prim.Native.Nat.{_<_, _≤_, _^_};
 ghost use lib.Dec.{ltb};
-ghost use Rattle.bitalloc.specs.Classes.{classOf, cOf, dOf, bitsPerSample, bitsPerCodeword};
 ghost use Rattle.requant.specs.Requant.{degrouped};
-ghost use Rattle.leaves.specs.Leaves.{scalefactorLeaf, groupingLeaf, requantizeLeaf, packed, degroupLeaf, lfeLeaf, coefficientLeaf};
-use bitalloc::ClassLookup;
-use bitalloc::QuantClass;
+ghost use Rattle.leaves.specs.Leaves.{scalefactorLeaf, requantizeLeaf, packed, degroupLeaf, lfeLeaf, coefficientLeaf};
+use class_leaves::class_or_zero;
 
 #[no_mangle]
 pub extern "C" fn mc_leaf_scalefactor(index: u32) -> f64
@@ -18,58 +16,6 @@ pub extern "C" fn mc_leaf_scalefactor(index: u32) -> f64
     } else {
         0.0
     }
-}
-
-// The class that has this number of steps, or a row of zeros.
-fn class_or_zero(nb_steps: u32) -> QuantClass
-    ensures { λ r. ⌜ r ≡ classOf «nb_steps» ⌝ }
-{
-    match bitalloc::class_of_quantization(nb_steps) {
-        ClassLookup::Found(class) => class,
-        ClassLookup::Unknown => QuantClass {
-            nb_steps: 0,
-            c: 0.0,
-            d: 0.0,
-            grouping: false,
-            bits_per_sample: 0,
-            bits_per_codeword: 0,
-        },
-    }
-}
-
-#[no_mangle]
-pub extern "C" fn mc_leaf_class_bits_per_sample(nb_steps: u32) -> u32
-    ensures { λ r. ⌜ r ≡ bitsPerSample «nb_steps» ⌝ }
-{
-    class_or_zero(nb_steps).bits_per_sample
-}
-
-#[no_mangle]
-pub extern "C" fn mc_leaf_class_bits_per_codeword(nb_steps: u32) -> u32
-    ensures { λ r. ⌜ r ≡ bitsPerCodeword «nb_steps» ⌝ }
-{
-    class_or_zero(nb_steps).bits_per_codeword
-}
-
-#[no_mangle]
-pub extern "C" fn mc_leaf_class_grouping(nb_steps: u32) -> u32
-    ensures { λ r. ⌜ r ≡ groupingLeaf «nb_steps» ⌝ }
-{
-    class_or_zero(nb_steps).grouping as u32
-}
-
-#[no_mangle]
-pub extern "C" fn mc_leaf_class_c(nb_steps: u32) -> f64
-    ensures { λ r. ⌜ r ≡ cOf «nb_steps» ⌝ }
-{
-    class_or_zero(nb_steps).c
-}
-
-#[no_mangle]
-pub extern "C" fn mc_leaf_class_d(nb_steps: u32) -> f64
-    ensures { λ r. ⌜ r ≡ dOf «nb_steps» ⌝ }
-{
-    class_or_zero(nb_steps).d
 }
 
 // Whether a code is below 2^n.

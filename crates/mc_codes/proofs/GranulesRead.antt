@@ -10,11 +10,11 @@ use borrow.Author.Tests.{eq-eqb, ne-eqb}
 use Rattle.bits.specs.Syntax.{Outcome, done, bind, times}
 use Rattle.cursor.specs.Cursor.{step, runFrom}
 use Rattle.cursor.specs.CursorLaws.{advance, loop-next, times-over}
-use Rattle.cursor.specs.Three.{threeSteps}
+use Rattle.window.specs.Three.{threeSteps}
 use Rattle.cursor.specs.Ran.{Ran}
 use Rattle.bits.specs.Table.{set3}
 use Rattle.cursor.specs.declared.Cursor.{Cursor}
-use Rattle.cursor.specs.declared.ThreeReads.{ThreeReads}
+use Rattle.window.specs.declared.ThreeReads.{ThreeReads}
 use Rattle.fill.specs.TabLaws.{getD-tab}
 use Rattle.bitalloc.specs.Classes.{grouped, bitsPerCodeword}
 use Rattle.mc_fields.specs.Head.{bitsIf}

@@ -81,7 +81,7 @@ fn read_samples(
         codes[j] = x.value as u16;
         return x;
     }
-    let three = cursor::read_three(bytes, limit, c, width);
+    let three = window::read_three(bytes, limit, c, width);
     let z = three.cursor;
     codes[j] = three.first as u16;
     codes[j + 1] = three.second as u16;

@@ -1,10 +1,8 @@
-// What a header of the multichannel extension decides: channels and layout, subband groups, crosstalk, predictors and roles (ISO/IEC 13818-3, 2.5.2.13 and 2.5.2.15).
+// What a header of the multichannel extension decides: channels and layout (ISO/IEC 13818-3, 2.5.2.13).
 
 mod config;
-mod groups;
 mod layout;
 
-pub use groups::sbgr_of_subband;
 pub use layout::CENTRE;
 pub use layout::LEFT;
 pub use layout::LEFT_SURROUND;

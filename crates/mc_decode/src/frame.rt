@@ -4,14 +4,14 @@ ghost use Rattle.mc_finish.specs.Finish.{baseFrom};
 ghost use Rattle.mc_state.specs.Answer.{lentOf, buffersFrom, afterOf};
 ghost use Rattle.mc_state.specs.Frame.{frameOf};
 use mc_body::unpacked_frame;
+use mc_checks::lent_fits;
+use mc_checks::values_fit;
 use mc_error::McError;
 use mc_head::HeadAnswer;
 use mc_head::read_head;
 use mc_state::Framed;
 use mc_state::McAnswer;
 use mc_state::McDecodeState;
-use mc_state::lent_fits;
-use mc_state::values_fit;
 
 // One frame.
 pub fn frame<'h, 'p, 'a, 'b, 'n, 'r, 'w, 'o, 'l>(

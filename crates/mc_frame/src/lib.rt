@@ -1,8 +1,6 @@
-// One frame: the whole extension, from header bits to dematrixed subbands.
+// The frame call and a fresh state for C.
 
-mod call;
 mod export;
 
-pub use call::decode_mc_frame;
 pub use export::mc_decode_frame;
 pub use export::mc_fresh_state;

@@ -2,4 +2,3 @@
 pub mod PlacesBy
 -- laws
 pub mod PlacesLaws
-pub mod AllocationsLaws

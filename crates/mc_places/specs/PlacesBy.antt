@@ -1,11 +1,10 @@
 -- Places as the code builds them: sources and base channels by subband group, then the tables by place.
-use mathlib.Core.Bool.{Bool, not, _&&_, _||_, cond}
+use mathlib.Core.Bool.{Bool, not, _&&_, cond}
 use mathlib.Core.List.{List}
 use Prim.Native.Nat.{ℕ, _+_, _*_, _/_, _%_}
 use lib.Dec.{eqb, ltb, leb}
 use lib.ListN.{getD}
 use Rattle.fill.specs.Tab.{tab}
-use Rattle.bitalloc.specs.Classes.{isClass}
 use Rattle.mc_crosstalk.specs.Crosstalk
 use Rattle.mc_config.specs.Config.{mainOf}
 use Rattle.mc_config.specs.Groups.{sbgrOf}
@@ -58,11 +57,3 @@ placesBy nmch phantom limit sources bases steps baseSteps =
       source = tab (place (groupAt sources)) 96;
       base = tab (place (groupAt bases)) 96;
     }
-
--- a transmitted step count beside that of the samples in its place
-unfoldable pub allocationBy : ℕ → ℕ → Bool
-allocationBy n own = eqb n 0 || (isClass n && not (eqb own 0))
-
--- all 96, channel and subband at k, place at 3 sb + m
-abbrev pub allocationAt : List ℕ → List ℕ → ℕ → Bool
-allocationAt steps own k = allocationBy (getD steps k 0) (getD own (3 * (k % 32) + k / 32) 0)

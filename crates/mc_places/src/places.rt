@@ -141,7 +141,7 @@ fn by_place<'a>(
     for i in 0usize..96 {
         let m = i % 3;
         let sb = i / 3;
-        let k = 3 * mc_config::sbgr_of_subband(sb) + m;
+        let k = 3 * mc_groups::sbgr_of_subband(sb) + m;
         let there = carried(nmch, phantom, limit, m, sb);
         let from = sources[k];
         let copied = bases[k];

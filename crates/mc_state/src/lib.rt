@@ -1,11 +1,8 @@
 // What a frame call keeps and answers, and the test of what it is lent. The definition of the call stands in specs/Frame.antt.
 use mc_error::McError;
 
-mod checks;
 mod state;
 
-pub use checks::lent_fits;
-pub use checks::values_fit;
 pub use state::one_more;
 
 // What a decoder keeps from frame to frame.

@@ -4,9 +4,9 @@ ghost use Prim.Native.Nat.{_+_};
 ghost use lib.ListN.{length};
 ghost use Rattle.mc_state.specs.Answer.{packed, outcomeOf};
 ghost use Rattle.replay_list.specs.Outcome.{hashOf, stateHash, listedOf, reachedOf, differencesOf};
-use encoding::hash_floats;
-use encoding::hash_number;
 use encoding::number_at;
+use hash::hash_floats;
+use hash::hash_number;
 use mc_state::McAnswer;
 use mc_state::McDecodeState;
 

@@ -4,7 +4,7 @@
 use oracle::leaf::{self, QuantClass, SCALEFACTORS};
 use std::process::ExitCode;
 
-/// The functions of the crate `leaves`. All are total: they answer 0 beyond their domain.
+/// The functions of the crates `leaves` and `class_leaves`. All are total: they answer 0 beyond their domain.
 mod proved {
     unsafe extern "C" {
         pub safe fn mc_leaf_scalefactor(index: u32) -> f64;

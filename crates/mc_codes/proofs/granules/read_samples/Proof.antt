@@ -4,7 +4,7 @@ use lib.ListN.{length-set}
 use mir.Syntax.{w16}
 use borrow.Author.Needs.{needs}
 use Rattle.cursor.specs.CursorLaws.{cur-fits}
-use Rattle.cursor.specs.ThreeLaws.{three-fits}
+use Rattle.window.specs.ThreeLaws.{three-fits}
 use Rattle.mc_codes.proofs.GranulesRead.{group-ran, three-ran}
 use Rattle.mc_codes.proofs.granules.read_samples.Statement.{statement}
 use Rattle.mc_codes.proofs.granules.read_samples.Tie as tie

@@ -6,8 +6,8 @@ use Rattle.mc_decode.proofs.frame.frame.Statement.{statement}
 use Rattle.mc_decode.proofs.frame.frame.Tie as tie
 use Rattle.mc_decode.proofs.frame.frame.Reads as reads
 use Rattle.mc_decode.proofs.frame.frame.Lts as lts
-use Rattle.mc_state.proofs.lent_fits.Reads as lent-fits-reads
-use Rattle.mc_state.proofs.values_fit.Reads as values-fit-reads
+use Rattle.mc_checks.proofs.lent_fits.Reads as lent-fits-reads
+use Rattle.mc_checks.proofs.values_fit.Reads as values-fit-reads
 use Rattle.mc_body.proofs.unpacked_frame.Reads as unpacked-frame-reads
 use Rattle.mc_head.proofs.read_head.Reads as read-head-reads
 

@@ -1,0 +1,2 @@
+pub mod AllocationsBy
+pub mod AllocationsLaws

@@ -1,0 +1,52 @@
+-- `mc_state::checks::lent_fits` meets its contract.
+use mathlib.Core.Path.{_≡_}
+use mathlib.Core.Bool.{Bool, _&&_}
+use Rattle.mc_state.specs.Frame.{lentBy}
+use borrow.Author.Needs.{needs}
+use Rattle.mc_checks.proofs.checks.lent_fits.Statement.{statement}
+use Rattle.mc_checks.proofs.checks.lent_fits.Tie as tie
+use Rattle.mc_checks.proofs.checks.lent_fits.Reads as reads
+use Rattle.mc_checks.proofs.checks.lent_fits.Lts as lts
+use Rattle.mc_checks.proofs.checks.room_fits.Reads as room-fits-reads
+use Rattle.mc_checks.proofs.checks.values_long.Reads as values-long-reads
+use Rattle.mc_fields.proofs.string_fits.Reads as string-fits-reads
+use Rattle.mc_loan.proofs.loan_fits.Reads as loan-fits-reads
+
+-- src/checks.rt:87:9
+joined : (f : Bool) {a b c d e a′ b′ c′ d′ e′ : Bool} → a ≡ a′ → b ≡ b′ → c ≡ c′ → d ≡ d′ → e ≡ e′ → a && (b && (c && (d && (e && f)))) ≡ a′ && (b′ && (c′ && (d′ && (e′ && f))))
+joined f p q r s t = cc
+
+string-fits-requires : tie.Need-string-fits-requires
+string-fits-requires c κs = search needs
+
+-- src/checks.rt:88:9
+string-fits-requires-2 : tie.Need-string-fits-requires-2
+string-fits-requires-2 c κs = search needs
+
+-- src/checks.rt:89:9
+loan-fits-requires : tie.Need-loan-fits-requires
+loan-fits-requires c κs = search needs
+
+-- src/checks.rt:90:9
+values-long-requires : tie.Need-values-long-requires
+values-long-requires c κs = search needs
+
+-- src/checks.rt:97:9
+room-fits-requires : tie.Need-room-fits-requires
+room-fits-requires c κs = search needs
+
+-- src/checks.rt:65:1
+returns : tie.Need-returns
+unfolding lentBy
+returns c = joined _ (c .before .before .before .before .string-fits .ensures) (c .before .before .before .string-fits2 .ensures) (c .before .before .loan-fits .ensures) (c .before .values-long .ensures) (c .room-fits .ensures)
+
+pub lent-fits-spec : {M : Type 1} → statement M
+lent-fits-spec =
+    tie.close
+    (tie.spec
+    string-fits-requires
+    string-fits-requires-2
+    loan-fits-requires
+    values-long-requires
+    room-fits-requires
+    returns)

@@ -1,0 +1,5 @@
+// Subband groups.
+
+mod groups;
+
+pub use groups::sbgr_of_subband;
