@@ -6,7 +6,7 @@ use Prim.Native.Nat.{ℕ, _+_}
 use lib.Dec.{eqb}
 use lib.Ieee.{Float, binary64, ofBits}
 use lib.ListN.{take, replicate}
-use Rattle.mc_finish.specs.Finish.{baseFrom}
+use Rattle.mc_base.specs.Base.{baseFrom}
 use Rattle.mc_state.specs.Answer.{lentOf, buffersFrom, outcomeOf}
 use Rattle.mc_state.specs.Frame.{Lent, Buffers, After, frameOf}
 use Rattle.mc_state.specs.declared.McDecodeState.{McDecodeState}

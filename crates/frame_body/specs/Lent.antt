@@ -13,7 +13,7 @@ use Rattle.mc_config.specs.Config.{configOf}
 use Rattle.mc_config.specs.Records.{laid, layoutRecord}
 use Rattle.mc_config.specs.declared.McHeader.{McHeader}
 use Rattle.mc_config.specs.declared.layout.Layout.{Layout}
-use Rattle.mc_finish.specs.Finish.{baseFrom}
+use Rattle.mc_base.specs.Base.{baseFrom}
 use Rattle.mc_state.specs.Answer.{lentOf}
 use Rattle.mc_state.specs.Frame.{Lent}
 use Rattle.mc_state.specs.declared.McDecodeState.{McDecodeState}

@@ -24,8 +24,8 @@ use Rattle.mc_unpack.specs.SettledLaws.{Writable, settled-numbered, settled-wri
 use Rattle.mc_payload.specs.Record.{rawOf, lfeOf, recordOf}
 use Rattle.mc_payload.specs.Unpack.{allocationsFit, payloadOf, Loan, settingsOf}
 use Rattle.mc_payload.specs.Demand3.Widths.{codes-fit}
-use Rattle.mc_scale.specs.Scale.{Base, scaledBase}
-use Rattle.mc_finish.specs.Output.{channels, workOf, outputOf}
+use Rattle.mc_base.specs.Base.{Base, scaledBase}
+use Rattle.mc_output.specs.Output.{channels, workOf, outputOf}
 use Rattle.mc_history.specs.History.{historyAt, historyOf}
 use Rattle.mc_finish.specs.Finish.{BaseFits}
 use Rattle.mc_state.specs.declared.McAnswer.the-variants.{Accepted, Refused}

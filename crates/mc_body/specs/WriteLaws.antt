@@ -21,9 +21,10 @@ use Rattle.mc_unpack.specs.SettledLaws.{Writable, own-table}
 use Rattle.mc_payload.specs.Unpack.{stepsFit}
 use Rattle.mc_values.specs.Values.{SamplesFit, rawFrom, lfeFrom, delaysIn, delaysFrom, coefsFrom}
 use Rattle.mc_payload.specs.Demand3.Widths.{predictorWidth, Fitting}
-use Rattle.mc_scale.specs.Scale.{Base, scaledAt}
+use Rattle.mc_base.specs.Base.{Base}
+use Rattle.mc_scale.specs.Scale.{scaledAt}
 use Rattle.mc_predict.specs.Predict.{withTerm, sumOf, workAt}
-use Rattle.mc_finish.specs.Output.{workOf}
+use Rattle.mc_output.specs.Output.{workOf}
 use Rattle.mc_finish.specs.Finish.{recordFrom, Tables, RecordFits}
 use Rattle.mc_state.specs.Long.{Delayed}
 

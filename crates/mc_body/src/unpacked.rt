@@ -2,8 +2,8 @@
 ghost use mathlib.Core.Path.{_≡_};
 ghost use Prim.Native.Nat.{_≤_};
 ghost use Rattle.mc_payload.specs.Unpack.{loanBy, settingsOf};
-ghost use Rattle.mc_finish.specs.Output.{channels};
-ghost use Rattle.mc_finish.specs.Finish.{baseFrom};
+ghost use Rattle.mc_output.specs.Output.{channels};
+ghost use Rattle.mc_base.specs.Base.{baseFrom};
 ghost use Rattle.mc_state.specs.Answer.{buffersFrom, afterOf};
 ghost use Rattle.mc_state.specs.Frame.{follows, afterUnpacked};
 ghost use Rattle.mc_state.specs.Long.{Long};

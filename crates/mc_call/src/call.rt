@@ -1,6 +1,6 @@
 // The frame call on a state that is lent: the state is updated in place.
 ghost use mathlib.Core.Path.{_≡_};
-ghost use Rattle.mc_finish.specs.Finish.{baseFrom};
+ghost use Rattle.mc_base.specs.Base.{baseFrom};
 ghost use Rattle.mc_state.specs.Answer.{lentOf, buffersFrom, afterBy};
 ghost use Rattle.mc_state.specs.Frame.{frameOf};
 use mc_decode::frame_by_value;

@@ -1,6 +1,6 @@
 // What a frame call checks before it reads a bit.
 ghost use mathlib.Core.Path.{_≡_};
-ghost use Rattle.mc_finish.specs.Finish.{baseFrom};
+ghost use Rattle.mc_base.specs.Base.{baseFrom};
 ghost use Rattle.mc_state.specs.Answer.{lentOf};
 ghost use Rattle.mc_state.specs.Frame.{rightLength, valuesLong, roomFits, lentBy, allFit, valuesFit};
 use mc_fields::string_fits;

@@ -1,6 +1,6 @@
 // The frame call on a state by value: what is lent is tested, then the head is read, then the payload, and only then is anything written.
 ghost use mathlib.Core.Path.{_≡_};
-ghost use Rattle.mc_finish.specs.Finish.{baseFrom};
+ghost use Rattle.mc_base.specs.Base.{baseFrom};
 ghost use Rattle.mc_state.specs.Answer.{lentOf, buffersFrom, afterOf};
 ghost use Rattle.mc_state.specs.Frame.{frameOf};
 use mc_body::unpacked_frame;

@@ -9,12 +9,7 @@ use lib.ListN.{length, getD}
 use Rattle.mc_payload.specs.declared.McSettings.{McSettings}
 use Rattle.mc_payload.specs.Places.{stepsOf, sourcesOf, basesOf}
 use Rattle.mc_payload.specs.Record.{Record}
-use Rattle.mc_scale.specs.Scale.{Base}
-
--- the base's four lists
-abbrev pub baseFrom : List Float → List Float → List Float → List Float → Base
-baseFrom rawLeft rawRight scaledLeft scaledRight =
-    record { rawLeft = rawLeft; rawRight = rawRight; scaledLeft = scaledLeft; scaledRight = scaledRight }
+use Rattle.mc_base.specs.Base.{Base}
 
 -- the record, but for the LFE samples, which take no part
 abbrev pub recordFrom : List Float → List ℕ → List (List ℕ) → List (List (List Float)) → Record

@@ -1,6 +1,3 @@
--- Laws of the definitions, and that the code's are those that finishing promises.
+-- That the code's way of finishing is the definition's.
 pub mod PredictByLine
-pub mod OutputByMix
-pub mod LayOut
-pub mod BaseAlone
 pub mod Finish

@@ -1,4 +1,2 @@
-pub mod Output
 pub mod Finish
-pub mod Code
 pub mod Laws

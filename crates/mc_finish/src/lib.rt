@@ -1,11 +1,10 @@
 // From the record to dematrixed subbands (ISO/IEC 13818-3, 2.5.3.2): scaling, prediction, dematrixing and output.
 ghost use mathlib.Core.Path.{_≡_};
 ghost use lib.ListN.{length};
-ghost use Rattle.mc_finish.specs.Output.{workOf, outputOf};
-ghost use Rattle.mc_finish.specs.Finish.{baseFrom, recordFrom, Tables, BaseFits, RecordFits};
+ghost use Rattle.mc_output.specs.Output.{workOf, outputOf};
+ghost use Rattle.mc_base.specs.Base.{baseFrom};
+ghost use Rattle.mc_finish.specs.Finish.{recordFrom, Tables, BaseFits, RecordFits};
 use mc_payload::McSettings;
-
-mod output;
 
 // Fills work and output from the record, the base and the history, by the tables of the places.
 pub fn finish<'a, 'b>(
@@ -43,5 +42,5 @@ pub fn finish<'a, 'b>(
         work,
     );
     mc_predict::predict(s, delays, coefs, scaled_left, scaled_right, history, work);
-    output::write_output(s, scaled_left, scaled_right, work, output);
+    mc_output::write_output(s, scaled_left, scaled_right, work, output);
 }

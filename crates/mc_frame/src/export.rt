@@ -1,6 +1,6 @@
 // The functions for C; include/koftabasin.h declares them.
 ghost use mathlib.Core.Path.{_≡_};
-ghost use Rattle.mc_finish.specs.Finish.{baseFrom};
+ghost use Rattle.mc_base.specs.Base.{baseFrom};
 ghost use Rattle.mc_state.specs.Answer.{lentOf, buffersFrom, packedBy, packedOf};
 ghost use Rattle.mc_state.specs.Frame.{fresh, frameOf};
 use mc_pack::packed_frame;

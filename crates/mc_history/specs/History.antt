@@ -4,7 +4,7 @@ use Prim.Native.Nat.{ℕ, _+_, _/_, _%_}
 use lib.Ieee.{Float}
 use Rattle.fill.specs.Tab.{tab}
 use Rattle.mc_payload.specs.declared.McSettings.{McSettings}
-use Rattle.mc_scale.specs.Scale.{Base}
+use Rattle.mc_base.specs.Base.{Base}
 use Rattle.mc_predict.specs.Predict.{baseValue}
 
 -- the last nine slots of the base, oldest first; one base channel in both places

@@ -3,7 +3,7 @@ use mathlib.Core.List.{List}
 use Prim.Native.Nat.{ℕ, _+_, _*_, _/_, _%_}
 use lib.Ieee.{Float, nan}
 use lib.ListN.{getD}
-use Rattle.mc_scale.specs.Scale.{chosen}
+use Rattle.mc_base.specs.Base.{chosen}
 
 -- slot 27 + k of a subband
 abbrev pub lineBy : List Float → ℕ → ℕ → Float

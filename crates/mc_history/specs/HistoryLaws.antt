@@ -11,7 +11,7 @@ use Rattle.fill.specs.TabLaws.{all-filled}
 use Rattle.fill.specs.ByTurn.{ByTurn, turn-ends}
 use Rattle.mc_config.specs.CaseLaws.{cond-all}
 use Rattle.mc_payload.specs.declared.McSettings.{McSettings}
-use Rattle.mc_scale.specs.Scale.{Base, chosen}
+use Rattle.mc_base.specs.Base.{Base, chosen}
 use Rattle.mc_predict.specs.Predict.{baseFor}
 use Rattle.mc_history.specs.History.{historyAt, historyOf}
 use Rattle.mc_history.specs.HistoryBy.{lineBy, historyBy}

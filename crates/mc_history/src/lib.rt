@@ -5,12 +5,12 @@ ghost use Prim.Native.Nat.{_+_, _<_, _≤_};
 ghost use lib.Dec.{eqb};
 ghost use lib.ListN.{length};
 ghost use Rattle.mc_scale.specs.Code.Strided.{strided};
-ghost use Rattle.mc_scale.specs.Scale.{scaledBase};
+ghost use Rattle.mc_base.specs.Base.{scaledBase};
 ghost use Rattle.mc_history.specs.History.{historyOf};
 ghost use Rattle.mc_history.specs.HistoryBy.{lineBy};
+use mc_base::chosen;
+use mc_base::second_base;
 use mc_payload::McSettings;
-use mc_scale::chosen;
-use mc_scale::second_base;
 
 // The last nine slots of one subband of a base channel, oldest first.
 fn store_line(base: &[f64], sb: usize, values: &mut [f64], at: usize)

@@ -1,6 +1,6 @@
 // The frame call's answer as one number, and a fresh state in place of another: what the functions for C commit.
 ghost use mathlib.Core.Path.{_≡_};
-ghost use Rattle.mc_finish.specs.Finish.{baseFrom};
+ghost use Rattle.mc_base.specs.Base.{baseFrom};
 ghost use Rattle.mc_state.specs.Answer.{lentOf, buffersFrom, outcomeOf, packed, packedBy, packedOf};
 ghost use Rattle.mc_state.specs.Frame.{fresh, frameOf};
 use mc_decode::frame_by_value;

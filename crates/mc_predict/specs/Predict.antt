@@ -11,7 +11,8 @@ use Rattle.mc_fields.specs.Head.{modeAt, flagAt}
 use Rattle.mc_payload.specs.declared.McSettings.{McSettings}
 use Rattle.mc_payload.specs.Places.{pair}
 use Rattle.mc_payload.specs.Record.{Record}
-use Rattle.mc_scale.specs.Scale.{Base, chosen, scaledAt}
+use Rattle.mc_base.specs.Base.{Base, chosen}
+use Rattle.mc_scale.specs.Scale.{scaledAt}
 
 -- the base channel that stands for channel ch: with one base channel always the first
 abbrev pub baseFor : McSettings → ℕ → ℕ

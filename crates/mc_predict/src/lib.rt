@@ -10,10 +10,10 @@ ghost use Rattle.floats.specs.Binary64.{_⊕_};
 ghost use Rattle.mc_crosstalk.specs.Crosstalk.{predictedOf};
 ghost use Rattle.mc_scale.specs.Code.Strided.{column};
 ghost use Rattle.mc_predict.specs.Code.PredictByLine.{lineAt, lineOf, termOf, termsOf, pairSum, subbandOf, groupsOf, predictedWork};
+use mc_base::second_base;
 use mc_config::McConfig;
 use mc_payload::McSettings;
 use mc_predictors::predictable_channels;
-use mc_scale::second_base;
 
 // A base channel in one subband at a time: 9 values of the history, then the frame's 36.
 fn line_at(history: &[f64; 576], base: &[f64], ch: usize, sb: usize, t: usize) -> f64

@@ -1,6 +1,6 @@
 -- Crosstalk and scaling (ISO/IEC 13818-3, 2.5.3.2.1.2 and 2.5.3.2.3): a channel's values, times its own scalefactors.
 use mathlib.Core.Bool.{cond}
-use mathlib.Core.List.{List, []}
+use mathlib.Core.List.{List}
 use Prim.Native.Nat.{ℕ, _+_, _*_, _/_, _%_}
 use lib.Dec.{eqb}
 use lib.Ieee.{Float, nan}
@@ -8,25 +8,11 @@ use lib.ListN.{getD}
 use Rattle.floats.specs.Binary64.{_⊗_, zero64}
 use Rattle.fill.specs.Tab.{tab}
 use Rattle.tables.specs.Scalefactor.{scalefactorOf}
+use Rattle.mc_base.specs.Base.{Base, chosen}
 use Rattle.mc_crosstalk.specs.Crosstalk.{T, B}
 use Rattle.mc_payload.specs.declared.McSettings.{McSettings}
 use Rattle.mc_payload.specs.Places.{sourceAt, baseAt, stepsAt}
 use Rattle.mc_payload.specs.Record.{Record}
-
--- the base frame's subband values, slot and subband at 32 slot + sb; the right-hand lists are empty for one channel
-pub record Base : Type 0 where
-  pub rawLeft : List Float
-  pub rawRight : List Float
-  pub scaledLeft : List Float
-  pub scaledRight : List Float
-
--- what dematrixing and the history take of it
-abbrev pub scaledBase : List Float → List Float → Base
-scaledBase left right = record { rawLeft = []; rawRight = []; scaledLeft = left; scaledRight = right }
-
--- the chosen one of two base channels
-abbrev pub chosen : ℕ → List Float → List Float → List Float
-chosen ch left right = cond (eqb ch 0) left right
 
 -- the raw value of channel m
 abbrev pub rawAt : Record → ℕ → ℕ → ℕ → Float

@@ -1,32 +1,14 @@
 // Crosstalk and scaling (ISO/IEC 13818-3, 2.5.3.2.1.2 and 2.5.3.2.3): a channel's values, times its own scalefactors.
 ghost use mathlib.Core.Path.{_≡_};
-ghost use mathlib.Core.Bool.{cond};
 ghost use Prim.Native.Nat.{ℕ, _+_, _*_, _/_, _%_, _<_, _≤_};
-ghost use lib.Dec.{eqb};
 ghost use lib.ListN.{length, getD};
-ghost use Rattle.mc_scale.specs.Scale.{chosen};
+ghost use Rattle.mc_base.specs.Base.{chosen};
 ghost use Rattle.mc_scale.specs.Code.Strided.{column};
 ghost use Rattle.mc_scale.specs.Code.Column.{columnAt};
 ghost use Rattle.mc_scale.specs.Code.ScaleByPlace.{factorsOf, timesFactor, scaledFrom, PlacesFit, scaledByPlace};
+use mc_base::chosen;
 use mc_crosstalk::FROM_BASE;
 use mc_crosstalk::TRANSMITTED;
-
-// The chosen one of two base channels.
-pub fn chosen<'a>(ch: u8, left: &'a [f64], right: &'a [f64]) -> &'a [f64]
-    ensures { λ r. ⌜ now r ≡ chosen ch (now (left .entry)) (now (right .entry)) ⌝ }
-{
-    if ch == 0 { left } else { right }
-}
-
-// The base channel that stands for the second: with one base channel the first.
-pub fn second_base<'a>(base_channels: u8, left: &'a [f64], right: &'a [f64]) -> &'a [f64]
-    ensures { λ r. ⌜ now r ≡ chosen (cond (eqb «base_channels» 1) 0 1) (now (left .entry)) (now (right .entry)) ⌝ }
-{
-    if base_channels == 1 {
-        return chosen(0, left, right);
-    }
-    chosen(1, left, right)
-}
 
 // The factors of all places, each looked up once.
 fn factors_of(scalefactor: &[u8; 288]) -> [f64; 288]

@@ -4,7 +4,7 @@ use Prim.Native.Nat.{ℕ, _+_, _*_, _%_}
 use lib.Ieee.{Float}
 use Rattle.bits.specs.Syntax.{Outcome, accepted, refused}
 use Rattle.mc_error.specs.Error.{refusalOf}
-use Rattle.mc_scale.specs.Scale.{Base}
+use Rattle.mc_base.specs.Base.{Base}
 use Rattle.mc_state.specs.declared.McAnswer.{McAnswer}
 use Rattle.mc_state.specs.declared.McAnswer.the-variants.{Accepted, Refused}
 use Rattle.mc_state.specs.declared.Framed.{Framed}

@@ -12,7 +12,7 @@ use Rattle.requant.specs.Requant.{rawOf, degrouped, lfeOf, coefficientOf}
 use Rattle.mc_config.specs.Groups.{sbgrOf}
 use Rattle.mc_crosstalk.specs.Crosstalk.{listed}
 use Rattle.mc_payload.specs.declared.McSettings.{McSettings}
-use Rattle.mc_scale.specs.Scale.{Base}
+use Rattle.mc_base.specs.Base.{Base}
 use Rattle.mc_predict.specs.Predict.{earlier}
 
 pub data Row : Type 0 where

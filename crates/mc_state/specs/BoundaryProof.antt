@@ -13,7 +13,7 @@ use Rattle.requant.specs.Requant.{fraction, requantized, rawOf, degrouped, lfeC
 use Rattle.mc_config.specs.Groups.{sbgrOf}
 use Rattle.mc_crosstalk.specs.Crosstalk.{listed, sources3, sources2}
 use Rattle.mc_payload.specs.declared.McSettings.{McSettings}
-use Rattle.mc_scale.specs.Scale.{Base}
+use Rattle.mc_base.specs.Base.{Base}
 use Rattle.mc_predict.specs.Predict.{earlier}
 use Rattle.mc_state.specs.Boundary.{Row, sample, group, coefficient, lfe, crosstalk, history, subband, Holds, rows, Each}
 

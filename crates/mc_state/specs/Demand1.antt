@@ -10,7 +10,7 @@ use Rattle.mc_fields.specs.Lent.{headOf}
 use Rattle.mc_payload.specs.declared.McSettings.{McSettings}
 use Rattle.mc_payload.specs.Payload.{Codes}
 use Rattle.mc_unpack.specs.Settled.{settledOf}
-use Rattle.mc_finish.specs.Output.{channels}
+use Rattle.mc_output.specs.Output.{channels}
 use Rattle.mc_history.specs.History.{historyOf}
 use Rattle.mc_state.specs.declared.McDecodeState.{McDecodeState}
 use Rattle.mc_state.specs.Frame.{Lent, Buffers, After, settingsFor, written, oneMore, frameOf}

@@ -16,8 +16,8 @@ use Rattle.mc_payload.specs.Record.{recordOf}
 use Rattle.fill.specs.Each.{each}
 use Rattle.mc_payload.specs.Unpack.{settingsOf, loanFits, loanBy}
 use Rattle.mc_unpack.specs.Settled.{settledOf}
-use Rattle.mc_scale.specs.Scale.{Base}
-use Rattle.mc_finish.specs.Output.{workOf, outputOf, channels}
+use Rattle.mc_base.specs.Base.{Base}
+use Rattle.mc_output.specs.Output.{workOf, outputOf, channels}
 use Rattle.mc_history.specs.History.{historyOf}
 use Rattle.mc_state.specs.declared.McDecodeState.{McDecodeState}
 

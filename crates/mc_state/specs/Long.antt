@@ -5,7 +5,7 @@ use mathlib.Core.List.{List}
 use Prim.Native.Nat.{ℕ, _*_, _≤_, _<_}
 use lib.Dec.{eqb}
 use lib.ListN.{length, getD}
-use Rattle.mc_scale.specs.Scale.{Base}
+use Rattle.mc_base.specs.Base.{Base}
 use Rattle.mc_state.specs.Frame.{Buffers}
 
 -- the lengths of what is lent

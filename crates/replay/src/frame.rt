@@ -2,7 +2,7 @@
 ghost use mathlib.Core.Path.{_≡_};
 ghost use Prim.Native.Nat.{_+_};
 ghost use lib.ListN.{length};
-ghost use Rattle.mc_finish.specs.Finish.{baseFrom};
+ghost use Rattle.mc_base.specs.Base.{baseFrom};
 ghost use Rattle.mc_state.specs.Answer.{buffersFrom, afterOf};
 ghost use Rattle.mc_state.specs.Frame.{frameOf};
 ghost use Rattle.replay_list.specs.Opening.{secondLent, lentValues, stepsFrom, startOf, lentWith, lentLong, lentIn};

@@ -7,10 +7,9 @@ use lib.Ieee.{Float}
 use lib.ListN.{getD}
 use Rattle.encoding.specs.Encoding.{numberAt}
 use Rattle.fill.specs.Tab.{tab}
-use Rattle.mc_finish.specs.Finish.{baseFrom}
+use Rattle.mc_base.specs.Base.{baseFrom, Base}
 use Rattle.mc_state.specs.declared.McDecodeState.{McDecodeState}
 use Rattle.mc_state.specs.Answer.{lentOf}
-use Rattle.mc_scale.specs.Scale.{Base}
 use Rattle.mc_state.specs.Frame.{Lent}
 use Rattle.replay_list.specs.Values.{valuesAfter, withWild}
 

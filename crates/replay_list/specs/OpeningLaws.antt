@@ -8,8 +8,7 @@ use lib.Ieee.{Float}
 use lib.ListN.{length, take, getD, length-take, List·getD-eq-default}
 use Rattle.fill.specs.InOrder.{Filling, ends-all}
 use Rattle.encoding.specs.Encoding.{numberAt}
-use Rattle.mc_finish.specs.Finish.{baseFrom}
-use Rattle.mc_scale.specs.Scale.{Base}
+use Rattle.mc_base.specs.Base.{baseFrom, Base}
 use Rattle.mc_state.specs.declared.Framed.{Framed}
 use Rattle.mc_state.specs.declared.McDecodeState.{McDecodeState}
 use Rattle.mc_state.specs.Answer.{lentOf, afterOf}

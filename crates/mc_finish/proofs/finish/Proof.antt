@@ -1,5 +1,6 @@
 -- `finish` meets its contract: scaling, prediction and output, one after the other.
-use Rattle.mc_finish.specs.Finish.{baseFrom, recordFrom}
+use Rattle.mc_base.specs.Base.{baseFrom}
+use Rattle.mc_finish.specs.Finish.{recordFrom}
 use Rattle.mc_finish.specs.Laws.Finish.{sources-small, bases-long, output-scaled, work-finished}
 use borrow.Author.Needs.{needs}
 use Rattle.mc_finish.proofs.finish.Statement.{statement}

@@ -16,15 +16,16 @@ use Rattle.mc_fields.specs.Head.{modeAt, secondAt}
 use Rattle.mc_payload.specs.declared.McSettings.{McSettings}
 use Rattle.mc_payload.specs.Places.{pair, sourceAt, sourcesOf, basesOf}
 use Rattle.mc_payload.specs.Record.{Record}
-use Rattle.mc_scale.specs.Scale.{Base, scaledBase, chosen, scaledAt, scaledOf}
+use Rattle.mc_base.specs.Base.{Base, scaledBase, chosen, baseFrom}
+use Rattle.mc_scale.specs.Scale.{scaledAt, scaledOf}
 use Rattle.mc_predict.specs.Predict.{withTerm, sumOf, workAt}
-use Rattle.mc_finish.specs.Output.{workOf, outputAt, outputOf}
+use Rattle.mc_output.specs.Output.{workOf, outputAt, outputOf}
 use Rattle.mc_predict.specs.Laws.Chosen.{crossed-long}
 use Rattle.mc_scale.specs.Laws.ScaleByPlace.{source-at, base-at, scaled-by-place}
 use Rattle.mc_scale.specs.Code.ScaleByPlace.{factorsOf, scaledByPlace}
 use Rattle.mc_predict.specs.Code.PredictByLine.{predictedWork}
 use Rattle.mc_finish.specs.Laws.PredictByLine.{work-predicted}
-use Rattle.mc_finish.specs.Finish.{baseFrom, recordFrom, Tables, BaseFits}
+use Rattle.mc_finish.specs.Finish.{recordFrom, Tables, BaseFits}
 
 -- a source is an earlier channel, T or B
 source-small : (s : McSettings) (m sb : ℕ) → sourceAt s m sb ≤ 4

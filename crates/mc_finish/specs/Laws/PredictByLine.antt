@@ -10,9 +10,10 @@ use Rattle.fill.specs.TabLaws.{getD-tab}
 use Rattle.mc_payload.specs.declared.McSettings.{McSettings}
 use Rattle.mc_payload.specs.Record.{Record}
 use Rattle.mc_predict.specs.Laws.Chosen.{first-base}
-use Rattle.mc_scale.specs.Scale.{Base, chosen, scaledAt, scaledOf}
+use Rattle.mc_base.specs.Base.{Base, chosen}
+use Rattle.mc_scale.specs.Scale.{scaledAt, scaledOf}
 use Rattle.mc_predict.specs.Predict.{baseFor, coefAt, delayAt, withTerm, sumOf, placeIn, predictedIn, workAt}
-use Rattle.mc_finish.specs.Output.{workOf}
+use Rattle.mc_output.specs.Output.{workOf}
 use Rattle.mc_predict.specs.Code.PredictByLine.{lineAt, lineOf, termOf, termsOf, sumBy, groupsOf, predictedWork}
 use Rattle.mc_scale.specs.Laws.TabSame.{tab-same}
 

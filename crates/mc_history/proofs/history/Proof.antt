@@ -6,7 +6,7 @@ use lib.Ieee.{nan}
 use lib.ListN.{length}
 use borrow.Author.Needs.{needs}
 use Rattle.fill.specs.ByTurn.{ByTurn, turn-starts}
-use Rattle.mc_scale.specs.Scale.{scaledBase}
+use Rattle.mc_base.specs.Base.{scaledBase}
 use Rattle.mc_predict.specs.Laws.Chosen.{chosen-long}
 use Rattle.mc_history.specs.HistoryBy.{historyBy}
 use Rattle.mc_history.specs.HistoryLaws.{turn-line, line-long, lines-end, history-kept}

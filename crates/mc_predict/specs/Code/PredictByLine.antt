@@ -11,7 +11,7 @@ use Rattle.mc_crosstalk.specs.Crosstalk.{predictedOf}
 use Rattle.mc_fields.specs.Head.{modeAt, flagAt}
 use Rattle.mc_payload.specs.declared.McSettings.{McSettings}
 use Rattle.mc_payload.specs.Places.{pair}
-use Rattle.mc_scale.specs.Scale.{chosen}
+use Rattle.mc_base.specs.Base.{chosen}
 use Rattle.mc_predict.specs.Predict.{baseFor, placeIn}
 use Rattle.mc_scale.specs.Code.Column.{slotOf}
 

@@ -10,7 +10,7 @@ use lib.ListN.{length}
 use Rattle.mc_payload.specs.declared.McSettings.{McSettings}
 use Rattle.mc_payload.specs.Places.{baseAt}
 use Rattle.mc_roles.specs.Roles.{baseOf}
-use Rattle.mc_scale.specs.Scale.{chosen}
+use Rattle.mc_base.specs.Base.{chosen}
 use Rattle.mc_predict.specs.Predict.{baseFor}
 
 -- any channel, where the first is meant if there is but one

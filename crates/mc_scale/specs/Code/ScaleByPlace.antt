@@ -10,7 +10,7 @@ use Rattle.fill.specs.Tab.{tab}
 use Rattle.floats.specs.Binary64.{_⊗_, zero64}
 use Rattle.tables.specs.Scalefactor.{scalefactorOf}
 use Rattle.mc_crosstalk.specs.Crosstalk.{T, B}
-use Rattle.mc_scale.specs.Scale.{chosen}
+use Rattle.mc_base.specs.Base.{chosen}
 use Rattle.mc_scale.specs.Code.Column.{columnAt, placeOf, slotOf}
 
 -- the factors, three to a place

@@ -14,7 +14,8 @@ use Rattle.tables.specs.Scalefactor.{scalefactorOf}
 use Rattle.mc_payload.specs.declared.McSettings.{McSettings}
 use Rattle.mc_payload.specs.Places.{place, stepsAt, sourceAt, baseAt, stepsOf, sourcesOf, basesOf}
 use Rattle.mc_payload.specs.Record.{Record}
-use Rattle.mc_scale.specs.Scale.{Base, scaledAt, scaledOf}
+use Rattle.mc_base.specs.Base.{Base}
+use Rattle.mc_scale.specs.Scale.{scaledAt, scaledOf}
 use Rattle.mc_scale.specs.Code.Column.{columnAt, placeOf, slotOf, placeAt, turnOf}
 use Rattle.mc_scale.specs.Code.ScaleByPlace.{factorsOf, scaledFrom, placeScaled, scaledByPlace}
 use Rattle.mc_scale.specs.Code.Strided.{column}

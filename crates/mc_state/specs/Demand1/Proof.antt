@@ -18,7 +18,7 @@ use Rattle.mc_payload.specs.Payload.{Codes}
 use Rattle.mc_payload.specs.PayloadYields.{payload-yields}
 use Rattle.mc_payload.specs.Unpack.{allocationsFit, payloadOf}
 use Rattle.mc_unpack.specs.Settled.{settledOf}
-use Rattle.mc_finish.specs.Output.{channels}
+use Rattle.mc_output.specs.Output.{channels}
 use Rattle.mc_state.specs.declared.McDecodeState.{McDecodeState}
 use Rattle.mc_state.specs.Frame.{Lent, Buffers, Verdict, refusal, changed, frame, settingsFor, follows, lentFits, valuesFit, verdictUnpacked, verdictHead, verdictOf, answerOf, buffersOf, stateOf, afterVerdict, frameOf}
 use Rattle.mc_state.specs.Demand1.{Found, Numbered, Stored, Left, Written, RefusedLeaves, AcceptedWrites}
