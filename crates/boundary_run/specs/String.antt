@@ -3,9 +3,13 @@ use mathlib.Core.Bool.{cond}
 use mathlib.Core.List.{List}
 use Prim.Native.Nat.{ℕ, zero, suc, _+_, _*_, _/_, _%_}
 use lib.Dec.{leb}
-use lib.ListN.{getD, set}
+use lib.ListN.{getD, set, replicate}
 use Rattle.fill.specs.Tab.{tab}
 use Rattle.boundary_run.specs.declared.string.Bits.{Bits}
+
+-- nothing written
+abbrev pub nothing : Bits
+nothing = record { bits = replicate 232 0; at = 0 }
 
 -- the n lowest bits of v from place p on, the highest first
 unfoldable pub putBits : List ℕ → ℕ → ℕ → ℕ → List ℕ

@@ -1,7 +1,7 @@
 // A string of bits while it is written, and its bytes.
 ghost use mathlib.Core.Path.{_≡_};
 ghost use Prim.Native.Nat.{_+_, _≤_};
-ghost use Rattle.boundary_run.specs.String.{putBits, fieldOf, fieldsOf, byteOf, bytesOf};
+ghost use Rattle.boundary_run.specs.String.{nothing, putBits, fieldOf, fieldsOf, byteOf, bytesOf};
 
 // One place for each bit, the first bit first; `at` is the next one to write. 232 is the longest head.
 pub struct Bits {
@@ -26,7 +26,9 @@ fn put(bits: [u8; 232], at: usize, n: usize, value: u32) -> [u8; 232]
 }
 
 impl Bits {
-    pub fn new() -> Bits {
+    pub fn new() -> Bits
+        ensures { λ r. ⌜ r ≡ nothing ⌝ }
+    {
         Bits {
             bits: [0; 232],
             at: 0,

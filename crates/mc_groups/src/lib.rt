@@ -1,4 +1,4 @@
-// Subband groups.
+// Subband groups (ISO/IEC 13818-3, 2.5.2.15).
 
 mod groups;
 

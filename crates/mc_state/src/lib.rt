@@ -1,4 +1,4 @@
-// What a frame call keeps and answers, and the test of what it is lent. The definition of the call stands in specs/Frame.antt.
+// What a frame call keeps and answers. The definition of the call stands in specs/Frame.antt, demand 1 in specs/Demand1.antt.
 use mc_error::McError;
 
 mod state;
