@@ -1,4 +1,6 @@
 // The frames.
+ghost use mathlib.Core.Path.{_≡_};
+ghost use Rattle.boundary.specs.Frames.{threeTwo, threeOne, twoTwo, scalefactorFrame, lfeFrame, longestFrame, phantomFrame, monoSurround, forbiddenFrame, layerThree, barredFrame};
 use crate::heads::crossed_head;
 use crate::heads::longest_head;
 use crate::heads::plain_head;
@@ -10,26 +12,34 @@ use boundary_run::payload_from;
 use boundary_run::payload_of_ones;
 
 // 3/2, 3/1 and 2/2 with nothing transmitted; the base begins with this value.
-pub fn three_two(left: f64) -> Loan {
+pub fn three_two(left: f64) -> Loan
+    ensures { λ r. ⌜ r ≡ threeTwo left ⌝ }
+{
     let mut loan = Loan::new(plain_head(1, 2, 3, 0, 0));
     loan.left = left;
     loan
 }
 
-pub fn three_one(left: f64) -> Loan {
+pub fn three_one(left: f64) -> Loan
+    ensures { λ r. ⌜ r ≡ threeOne left ⌝ }
+{
     let mut loan = Loan::new(plain_head(1, 1, 3, 0, 0));
     loan.left = left;
     loan
 }
 
-pub fn two_two(left: f64) -> Loan {
+pub fn two_two(left: f64) -> Loan
+    ensures { λ r. ⌜ r ≡ twoTwo left ⌝ }
+{
     let mut loan = Loan::new(plain_head(0, 2, 2, 0, 0));
     loan.left = left;
     loan
 }
 
 // 3/2 with 7 steps in one place, whose last scalefactor is `code`.
-pub fn scalefactor(code: u32) -> Loan {
+pub fn scalefactor(code: u32) -> Loan
+    ensures { λ r. ⌜ r ≡ scalefactorFrame code ⌝ }
+{
     let start = Bits::new()
         .field(2, 0) // scfsi: three scalefactors
         .field(6, 0)
@@ -47,7 +57,9 @@ pub fn scalefactor(code: u32) -> Loan {
 }
 
 // 3/2 with an LFE allocation of 1 (2 bits to a sample) and this LFE scalefactor.
-pub fn lfe_scalefactor(code: u32) -> Loan {
+pub fn lfe_scalefactor(code: u32) -> Loan
+    ensures { λ r. ⌜ r ≡ lfeFrame code ⌝ }
+{
     let start = Bits::new().field(6, code);
     let bits = start.bits;
     let payload = payload_from(&bytes(&bits));
@@ -59,7 +71,9 @@ pub fn lfe_scalefactor(code: u32) -> Loan {
 }
 
 // Every field at its longest: 65,535 steps in all 30 subbands of three channels.
-pub fn longest(head_bits: usize, payload_bits: usize) -> Loan {
+pub fn longest(head_bits: usize, payload_bits: usize) -> Loan
+    ensures { λ r. ⌜ r ≡ longestFrame «head_bits» «payload_bits» ⌝ }
+{
     let steps = first_steps(3, 30, 65535);
     let mut loan = Loan::new(longest_head());
     loan.head_bits = head_bits;
@@ -71,7 +85,9 @@ pub fn longest(head_bits: usize, payload_bits: usize) -> Loan {
 
 // Mono base, phantom centre, second stereo; 7 steps in the first subbands of second left. For 12 of them the payload is 12 scfsi codes and
 // 36 scalefactors, all 0, in 30 bytes, and then samples whose bits are all 1.
-pub fn phantom(subbands: usize) -> Loan {
+pub fn phantom(subbands: usize) -> Loan
+    ensures { λ r. ⌜ r ≡ phantomFrame subbands ⌝ }
+{
     let steps = first_steps(1, subbands, 7);
     let payload = payload_of_ones(30, 192);
     let mut loan = Loan::new(plain_head(3, 3, 0, 0, 0));
@@ -83,24 +99,32 @@ pub fn phantom(subbands: usize) -> Loan {
 }
 
 // Mono base, no centre, stereo surround.
-pub fn mono_surround() -> Loan {
+pub fn mono_surround() -> Loan
+    ensures { λ r. ⌜ r ≡ monoSurround ⌝ }
+{
     let mut loan = Loan::new(plain_head(0, 2, 0, 0, 0));
     loan.base_channels = 1;
     loan
 }
 
 // 3/2 with a crosstalk code in group 5.
-pub fn forbidden(code: u32) -> Loan {
+pub fn forbidden(code: u32) -> Loan
+    ensures { λ r. ⌜ r ≡ forbiddenFrame code ⌝ }
+{
     Loan::new(crossed_head(5, code, 6))
 }
 
 // 3/2 with the Layer III flag.
-pub fn layer_three() -> Loan {
+pub fn layer_three() -> Loan
+    ensures { λ r. ⌜ r ≡ layerThree ⌝ }
+{
     Loan::new(plain_head(1, 2, 3, 0, 1))
 }
 
 // 3/2 with a phantom centre and a step count in its subband 12.
-pub fn barred() -> Loan {
+pub fn barred() -> Loan
+    ensures { λ r. ⌜ r ≡ barredFrame ⌝ }
+{
     let steps = first_steps(1, 13, 7);
     let mut loan = Loan::new(plain_head(3, 2, 3, 0, 0));
     loan.steps = steps;

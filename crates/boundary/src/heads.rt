@@ -1,8 +1,12 @@
 // Head strings, field by field: mc_header(), mc_crc_check, mc_composite_status_info().
+ghost use mathlib.Core.Path.{_≡_};
+ghost use Rattle.boundary.specs.Heads.{headerOf, plainHead, crossedHead, longestHead};
 use boundary_run::Bits;
 
 // mc_header() from `centre` on.
-fn header(start: Bits, centre: u32, surround: u32, lfe: u32, layer3: u32) -> Bits {
+fn header(start: Bits, centre: u32, surround: u32, lfe: u32, layer3: u32) -> Bits
+    ensures { λ r. ⌜ r ≡ headerOf start centre surround lfe layer3 ⌝ }
+{
     start
         .field(2, centre)
         .field(2, surround)
@@ -16,7 +20,9 @@ fn header(start: Bits, centre: u32, surround: u32, lfe: u32, layer3: u32) -> Bit
 }
 
 // Nothing crossed, nothing predicted, one tc of `tc_bits` bits for all groups.
-pub fn plain_head(centre: u32, surround: u32, tc_bits: usize, lfe: u32, layer3: u32) -> Bits {
+pub fn plain_head(centre: u32, surround: u32, tc_bits: usize, lfe: u32, layer3: u32) -> Bits
+    ensures { λ r. ⌜ r ≡ plainHead centre surround «tc_bits» lfe layer3 ⌝ }
+{
     let start = Bits::new().field(1, 0); // ext_bit_stream_present
     header(start, centre, surround, lfe, layer3)
         .field(16, 0) // mc_crc_check
@@ -27,7 +33,9 @@ pub fn plain_head(centre: u32, surround: u32, tc_bits: usize, lfe: u32, layer3: 
 }
 
 // 3/2 with a crosstalk code in one group, and code 0 in the groups before and after it.
-pub fn crossed_head(before: usize, code: u32, after: usize) -> Bits {
+pub fn crossed_head(before: usize, code: u32, after: usize) -> Bits
+    ensures { λ r. ⌜ r ≡ crossedHead before code after ⌝ }
+{
     let start = Bits::new().field(1, 0); // ext_bit_stream_present
     header(start, 1, 2, 0, 0)
         .field(16, 0) // mc_crc_check
@@ -42,7 +50,9 @@ pub fn crossed_head(before: usize, code: u32, after: usize) -> Bits {
 }
 
 // 3/2 with every field that a head can have: 232 bits.
-pub fn longest_head() -> Bits {
+pub fn longest_head() -> Bits
+    ensures { λ r. ⌜ r ≡ longestHead ⌝ }
+{
     let start = Bits::new()
         .field(1, 1) // ext_bit_stream_present
         .field(8, 255); // n_ad_bytes

@@ -1,8 +1,7 @@
 // What is lent to a frame call.
 ghost use mathlib.Core.Path.{_≡_};
 ghost use Rattle.fill.specs.Tab.{tab};
-ghost use Rattle.boundary_run.specs.String.{bytesOf};
-ghost use Rattle.boundary_run.specs.Loan.{rampOf, stepAt, byteFrom, onesAt};
+ghost use Rattle.boundary_run.specs.Loan.{loanOf, rampOf, stepAt, byteFrom, onesAt};
 use crate::string::Bits;
 use crate::string::bytes;
 
@@ -24,7 +23,7 @@ pub struct Loan {
 impl Loan {
     // The head, a stereo base at 44,100 Hz, and no payload.
     pub fn new(head: Bits) -> Loan
-        ensures { λ r. ⌜ (r .head ≡ bytesOf (head .bits)) × (r .«head_bits» ≡ head .at) ⌝ }
+        ensures { λ r. ⌜ r ≡ loanOf head ⌝ }
     {
         let bits = head.bits;
         let head_bytes = bytes(&bits);

@@ -1,0 +1,33 @@
+-- `boundary::frames::phantom` meets its contract.
+use borrow.Author.Needs.{needs}
+use Rattle.boundary.proofs.frames.phantom.Statement.{statement}
+use Rattle.boundary.proofs.frames.phantom.Tie as tie
+
+first-steps-requires : tie.Need-first-steps-requires
+first-steps-requires c κs = search needs
+
+payload-of-ones-requires : tie.Need-payload-of-ones-requires
+payload-of-ones-requires c κs = search needs
+
+plain-head-requires : tie.Need-plain-head-requires
+plain-head-requires c κs = search needs
+
+new-requires : tie.Need-new-requires
+new-requires c κs = search needs
+
+mul-loan : tie.Need-mul-loan
+mul-loan c = search needs
+
+returns : tie.Need-returns
+returns c = rw (c .new .ensures, c .before .plain-head .ensures, c .before .before .payload-of-ones .ensures, c .before .before .before .first-steps .ensures)
+
+pub phantom-spec : {M : Type 1} → statement M
+phantom-spec =
+    tie.close
+    (tie.spec
+    first-steps-requires
+    payload-of-ones-requires
+    plain-head-requires
+    new-requires
+    mul-loan
+    returns)
