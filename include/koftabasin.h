@@ -1,9 +1,9 @@
 /* koftabasin.h - the proved reader of Layer II multichannel extension frames (ISO/IEC 13818-3).
  *
  * `rt staticlib mc_frame` at the repository's root proves the reader and makes
- * target/staticlib/libmc_frame.a, which has both functions below. They allocate nothing, keep nothing
- * between calls but what is in the state, and may run in several threads on different states and
- * buffers. "Refusal N" is a number of document 01's table.
+ * target/staticlib/libmc_frame.a, which has mc_fresh_state and mc_decode_frame_reading. They allocate
+ * nothing, keep nothing between calls but what is in the state, and may run in several threads on
+ * different states and buffers. "Refusal N" is a number of the table below.
  *
  * A slice is a pointer and, right after it, the number of its elements. The pointer is not null and is
  * aligned, even where the number is 0; the memory is the caller's, and the call keeps no pointer to it.
@@ -45,6 +45,8 @@ uint32_t mc_fresh_state(McDecodeState *state);
  *   head           header, check word (not verified) and composite status, first bit highest
  *   payload        from the scfsi codes on; extension bytes are already joined
  *   head_bits, payload_bits  at most eight times the bytes; bits after the used ones do not matter
+ *   reading        of the transfer guide, 1 or 2. Reading 1 is the standard's text, with centre code 2
+ *                  as no centre; under reading 2 a header with centre code 2 is refusal 13
  *   rate           32000, 44100 or 48000
  *   base_channels  1 or 2
  *   raw_*          requantised base values, from -4 to 4
@@ -66,7 +68,21 @@ uint32_t mc_fresh_state(McDecodeState *state);
  * nine scaled slots into state->pred_hist.
  *
  * Returns one number: see the functions below. */
-uint64_t mc_decode_frame(McDecodeState *state,
+uint64_t mc_decode_frame_reading(McDecodeState *state,
+    const uint8_t *head, size_t head_len, size_t head_bits,
+    const uint8_t *payload, size_t payload_len, size_t payload_bits,
+    uint32_t reading, uint32_t rate, uint8_t base_channels,
+    const double *raw_left, size_t raw_left_len, const double *raw_right, size_t raw_right_len,
+    const double *scaled_left, size_t scaled_left_len,
+    const double *scaled_right, size_t scaled_right_len,
+    const uint32_t *base_nb_steps, size_t base_nb_steps_len, uint8_t lfe_allocation,
+    const uint32_t *nb_steps, size_t nb_steps_len,
+    double *raw, size_t raw_len, double *work, size_t work_len,
+    double *output, size_t output_len, double *lfe, size_t lfe_len);
+
+/* The same under reading 1: the call as it was before there were readings. The library has no symbol
+ * of this name any more, so an object that was compiled against the older header does not link. */
+static inline uint64_t mc_decode_frame(McDecodeState *state,
     const uint8_t *head, size_t head_len, size_t head_bits,
     const uint8_t *payload, size_t payload_len, size_t payload_bits,
     uint32_t rate, uint8_t base_channels,
@@ -76,10 +92,18 @@ uint64_t mc_decode_frame(McDecodeState *state,
     const uint32_t *base_nb_steps, size_t base_nb_steps_len, uint8_t lfe_allocation,
     const uint32_t *nb_steps, size_t nb_steps_len,
     double *raw, size_t raw_len, double *work, size_t work_len,
-    double *output, size_t output_len, double *lfe, size_t lfe_len);
+    double *output, size_t output_len, double *lfe, size_t lfe_len)
+{
+    return mc_decode_frame_reading(state, head, head_len, head_bits, payload, payload_len, payload_bits,
+        1, rate, base_channels, raw_left, raw_left_len, raw_right, raw_right_len,
+        scaled_left, scaled_left_len, scaled_right, scaled_right_len,
+        base_nb_steps, base_nb_steps_len, lfe_allocation, nb_steps, nb_steps_len,
+        raw, raw_len, work, work_len, output, output_len, lfe, lfe_len);
+}
 
-/* The refusals, in the order of document 01's table. They are looked for in the order 6, 7, head (1,
- * then 2), 8, scfsi (1), 3, the remaining bits in turn (1 before 4), 5. */
+/* The refusals, by their numbers in document 01's table and the requests after it. They are looked for
+ * in the order 6, 7, header (1, then 13), the rest of the head (1, then 2), 8, scfsi (1), 3, the
+ * remaining bits in turn (1 before 4), 5. */
 enum {
     MC_ACCEPTED = 0,
     MC_UNEXPECTED_END = 1,           /* a field passes its string's bit count */
@@ -87,11 +111,13 @@ enum {
     MC_ML_LAYER3_UNSUPPORTED = 3,    /* the header says Layer III multilingual channels */
     MC_RESERVED_SCALEFACTOR = 4,     /* scalefactor code 63 */
     MC_CONFIG_CHANGED = 5,           /* the stream's number of output channels is another */
-    MC_INVALID_ARGUMENT = 6,         /* a length, bit count, rate, base count, LFE allocation, base
-                                        step count or the state's layout_len is out of its bounds */
+    MC_INVALID_ARGUMENT = 6,         /* a length, bit count, reading, rate, base count, LFE
+                                        allocation, base step count or the state's layout_len is
+                                        out of its bounds */
     MC_VALUE_OUT_OF_RANGE = 7,       /* a base or history value is beyond -4 to 4 or not a number */
-    MC_INVALID_ALLOCATION = 8        /* a step count that no class has or at an untransmitted place;
+    MC_INVALID_ALLOCATION = 8,       /* a step count that no class has or at an untransmitted place;
                                         an LFE allocation without LFE */
+    MC_UNDEFINED_CENTRE = 13         /* centre code 2 under reading 2 */
 };
 
 /* Bits 0 to 7: 0 or the refusal. */

@@ -6,6 +6,9 @@ use crate::header::{Emphasis, FrameHeader, Mode, ModeExtension};
 /// Subband values of one channel: 36 slots of 32 subbands.
 pub type Slots = Vec<[f64; NUM_SUBBANDS]>;
 
+/// The readings of the transfer guide. The published code has the first alone.
+pub const READINGS: [u32; 2] = [1, 2];
+
 /// Everything that is lent but the state. The shapes are the caller's care: each base channel has
 /// 36 slots, and there are as many channels as `base_channels` says, one or two.
 #[derive(Debug, Clone, PartialEq)]
@@ -16,6 +19,8 @@ pub struct FrameInput {
     /// From the scfsi codes on.
     pub payload: Vec<u8>,
     pub payload_bits: u64,
+    /// One of [`READINGS`]; the reference does not look at it.
+    pub reading: u32,
     pub sample_rate: u32,
     pub base_channels: usize,
     /// Requantised base values, by channel, slot and subband.
@@ -65,8 +70,9 @@ impl FrameInput {
         let bytes = self.head.iter().take(40);
         let head: String = bytes.map(|byte| format!("{byte:02x}")).collect();
         format!(
-            "base channels {}, rate {}, LFE allocation {}\nhead of {} bytes and {} bits: {head}\n\
-             payload of {} bytes and {} bits",
+            "reading {}, base channels {}, rate {}, LFE allocation {}\n\
+             head of {} bytes and {} bits: {head}\npayload of {} bytes and {} bits",
+            self.reading,
             self.base_channels,
             self.sample_rate,
             self.lfe_allocation,

@@ -21,7 +21,8 @@ pub mod scope;
 
 pub use input::FrameInput;
 pub use mc::{
-    McDecodeState, McError, reference_head, reference_payload, reference_places, reference_span,
+    McDecodeState, McError, reference_centre, reference_head, reference_payload, reference_places,
+    reference_span,
 };
 pub use output::{FrameOutput, HeadOutput, PayloadOutput, Places, SpanOutput};
 

@@ -13,6 +13,7 @@ pub fn frame<'a>(input: &'a FrameInput, flat: &'a Flat) -> Frame<'a> {
         head_bits: input.head_bits as usize,
         payload: &input.payload,
         payload_bits: input.payload_bits as usize,
+        reading: input.reading,
         rate: input.sample_rate,
         base_channels: input.base_channels as u8,
         raw_left,

@@ -1,12 +1,12 @@
-//! Document 01's side of a frame: flat buffers, the state with its counter, and the three refusals
-//! that the published code does not have. Those (6, 7 and 8) are written here by hand; every other
-//! refusal and every value is the reference's.
+//! Document 01's side of a frame, with document 02's readings: flat buffers, the state with its
+//! counter, and the four refusals that the published code does not have. Those (6, 7, 8 and 13) are
+//! written here by hand; every other refusal and every value is the reference's, under either reading.
 
 use crate::bitalloc::class_of_quantization;
-use crate::input::{FrameInput, Slots};
+use crate::input::{FrameInput, READINGS, Slots};
 use crate::mc::{McDecodeState, McError};
 use crate::output::FrameOutput;
-use crate::{reference_frame, reference_places};
+use crate::{reference_centre, reference_frame, reference_head, reference_places};
 
 /// A refusal by document 01's number; group and code are 0 except under 2.
 #[derive(Debug, Clone, Copy, PartialEq, Eq, Hash)]
@@ -104,6 +104,9 @@ pub fn judge(input: &FrameInput, state: &mut State) -> Result<FrameOutput, Refus
     if !values_in_range(input, state) {
         return Err(Refusal::plain(7));
     }
+    if undefined_centre(input.reading, &input.head, input.head_bits) {
+        return Err(Refusal::plain(13));
+    }
     if !rightly_allocated(input)? {
         return Err(Refusal::plain(8));
     }
@@ -125,6 +128,7 @@ fn rightly_lent(input: &FrameInput, state: &State) -> bool {
     };
     string(&input.head, input.head_bits)
         && string(&input.payload, input.payload_bits)
+        && READINGS.contains(&input.reading)
         && matches!(input.sample_rate, 32_000 | 44_100 | 48_000)
         && matches!(input.base_channels, 1 | 2)
         && shaped(&input.base_raw)
@@ -151,9 +155,14 @@ fn values_in_range(input: &FrameInput, state: &State) -> bool {
         .all(|value| (-4.0..=4.0).contains(value))
 }
 
+/// The reason for refusal 13: under reading 2 a whole header with centre code 2, whatever follows it.
+pub fn undefined_centre(reading: u32, head: &[u8], head_bits: u64) -> bool {
+    reading == 2 && reference_centre(head, head_bits) == Ok(2)
+}
+
 /// No reason for refusal 8, of a head that is not refused itself.
 fn rightly_allocated(input: &FrameInput) -> Result<bool, McError> {
-    let head = crate::reference_head(&input.head, input.head_bits, input.base_channels)?;
+    let head = reference_head(&input.head, input.head_bits, input.base_channels)?;
     let places = reference_places(input)?;
     let lfe = head.mc_header.lfe || input.lfe_allocation == 0;
     let step_counts = (0..96).all(|k| {

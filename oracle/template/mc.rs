@@ -85,6 +85,14 @@ pub fn reference_head(
     })
 }
 
+/// Reads the header alone: its centre field.
+pub fn reference_centre(head: &[u8], head_bits: u64) -> Result<u32, McError> {
+    let total_bits = head_bits;
+    let mut hdr_reader = BitReader::new(head);
+    /*@header*/
+    centre_code(head, hdr_reader.bit_position())
+}
+
 /// The centre field as it was read, which the published header keeps only by its meaning: the first
 /// two of the 15 bits that end the header.
 fn centre_code(head: &[u8], hdr_bits: u64) -> Result<u32, McError> {

@@ -1,5 +1,6 @@
 //! The lines of the program `boundary`, written once more from the reference: each line of
-//! crates/boundary/stdout has to be what the published Rust answers to the same frame.
+//! crates/boundary/stdout has to be what the published Rust answers to the same frame, or documents 01
+//! and 02 where the Rust has no such refusal.
 
 use oracle::generator::Plan;
 use oracle::input::Slots;
@@ -243,6 +244,29 @@ fn refusals(lines: &mut Lines) {
     let _ = lines.line("step count in a barred subband", &barred(), &mut state());
 }
 
+fn readings(lines: &mut Lines) {
+    let mut state = State::fresh();
+    let name = "centre code 2, reading 1";
+    let _ = lines.line(name, &plan(2, 2, 0, 0.125), &mut state);
+    let mut read = |name: &str, plan: Plan, reading: u32, head_bits: Option<u64>| {
+        let _ = lines.spoiled(name, &plan, &mut state.clone(), |input| {
+            input.reading = reading;
+            input.head_bits = head_bits.unwrap_or(input.head_bits);
+        });
+    };
+    let centre_2 = || plan(2, 2, 0, 0.5);
+    let no_centre = || plan(2, 0, 0, 0.5);
+    read("centre code 2, reading 2", centre_2(), 2, None);
+    let name = "centre code 2 over one base channel, reading 2";
+    read(name, plan(1, 2, 0, 0.5), 2, None);
+    read("header alone, reading 1", centre_2(), 1, Some(16));
+    read("header alone, reading 2", centre_2(), 2, Some(16));
+    read("one header bit fewer, reading 2", centre_2(), 2, Some(15));
+    read("no centre, reading 2", no_centre(), 2, None);
+    read("reading 0", no_centre(), 0, None);
+    read("reading 3", no_centre(), 3, None);
+}
+
 #[test]
 fn each_line_is_what_the_published_rust_answers() {
     let mut lines = Lines::default();
@@ -250,6 +274,7 @@ fn each_line_is_what_the_published_rust_answers() {
     layouts(&mut lines);
     mono_bases(&mut lines);
     refusals(&mut lines);
+    readings(&mut lines);
     let expected = include_str!("../../crates/boundary/stdout");
     let expected: Vec<&str> = expected.lines().collect();
     assert_eq!(lines.0, expected);

@@ -159,3 +159,17 @@ fn entry_19_default_state_panics() {
     let answer = catch_unwind(AssertUnwindSafe(|| reference_span(&input, &mut state)));
     assert!(answer.is_err());
 }
+
+/// The published code has no readings: it takes the code, and finds the header alone short.
+#[test]
+fn entry_20_centre_code_2_stops_under_reading_2() {
+    let mut input = Plan::plain(2, 2, 0).input();
+    input.reading = 2;
+    for (bits, published) in [(35, Ok(2)), (16, Err(McError::UnexpectedEnd))] {
+        cut(&mut input, Part::Head, bits, false);
+        let answer = reference_frame(&input, &mut McDecodeState::new());
+        assert_eq!(answer.map(|frame| frame.span.layout.len()), published);
+        let answer = judge(&input, &mut State::fresh());
+        assert_eq!(answer, Err(Refusal::plain(13)));
+    }
+}

@@ -30,6 +30,12 @@ fn judged(mut each: impl FnMut(&Record, &FrameInput, Option<&FrameOutput>)) {
 }
 
 #[test]
+fn kept_list_is_the_generators() {
+    let kept = std::fs::read("../crates/replay/stdin").unwrap();
+    assert!(replay::write(&list()) == kept, "make-replay-list writes it");
+}
+
+#[test]
 fn written_list_is_read_back() {
     let records = list();
     let bytes = replay::write(&records);

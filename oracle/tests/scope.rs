@@ -1,7 +1,9 @@
-//! The refusals that document 01 adds, and the order of all.
+//! The refusals that documents 01 and 02 add, and the order of all.
 
-use oracle::generator::damage::{self, Part};
+use oracle::FrameInput;
+use oracle::generator::damage::{self, Part, WRONG_READINGS};
 use oracle::generator::{Kind, Plan, Random, base};
+use oracle::input::READINGS;
 use oracle::scope::{State, judge};
 
 /// A plan with a history, by its seed.
@@ -46,6 +48,97 @@ fn wrong_allocations_come_after_the_head_and_before_the_payload() {
     }
 }
 
+/// The number of the answer of a fresh state, 0 for acceptance.
+fn number(input: &FrameInput) -> u32 {
+    let answer = judge(input, &mut State::fresh());
+    answer.map_or_else(|refusal| refusal.number, |_| 0)
+}
+
+#[test]
+fn another_reading_is_a_wrong_loan() {
+    let mut input = Plan::plain(2, 0, 0).input();
+    for reading in WRONG_READINGS {
+        input.reading = reading;
+        assert_eq!(number(&input), 6, "reading {reading}");
+    }
+    for reading in READINGS {
+        input.reading = reading;
+        assert_eq!(number(&input), 0, "reading {reading}");
+    }
+}
+
+/// Under reading 2 centre code 2 is refused, over one base channel too; all else is as under reading 1.
+#[test]
+fn readings_differ_in_centre_code_2_alone() {
+    for seed in 0..4 * Plan::SHAPES {
+        let (plan, state, _) = lent(seed);
+        let [one, two] = READINGS.map(|reading| {
+            let (mut input, mut state) = (plan.input(), state.clone());
+            input.reading = reading;
+            (judge(&input, &mut state), state)
+        });
+        assert!(one.0.is_ok(), "seed {seed}");
+        match plan.head.centre {
+            2 => {
+                assert_eq!(two.0.unwrap_err().number, 13, "seed {seed}");
+                assert_eq!(two.1, state, "seed {seed}");
+            }
+            _ => assert_eq!(one, two, "seed {seed}"),
+        }
+    }
+}
+
+/// From the header's last bit on, whether a check word follows or not.
+#[test]
+fn undefined_centre_comes_after_the_header() {
+    for base_channels in [1, 2] {
+        for (n_ad_bytes, header) in [(None, 16), (Some(255), 24)] {
+            let mut plan = Plan::plain(base_channels, 2, 2);
+            plan.head.n_ad_bytes = n_ad_bytes;
+            let whole = plan.input();
+            for bits in 0..=whole.head_bits {
+                let mut input = whole.clone();
+                damage::cut(&mut input, Part::Head, bits, bits.is_multiple_of(2));
+                let short = u32::from(bits < whole.head_bits);
+                assert_eq!(number(&input), short, "{bits} bits");
+                input.reading = 2;
+                let wanted = if bits < header { 1 } else { 13 };
+                assert_eq!(number(&input), wanted, "{bits} bits");
+            }
+        }
+    }
+}
+
+/// A frame with many faults, mended one after another.
+#[test]
+fn undefined_centre_in_its_order() {
+    let mut plan = Plan::plain(2, 2, 2);
+    plan.head.crosstalk_on = true;
+    plan.head.codes[3] = 7;
+    let code = plan.head_written().all(Kind::Crosstalk).nth(3).unwrap();
+    let mut input = plan.input();
+    let whole = input.head_bits;
+    input.nb_steps[0][31] = 3;
+    input.base_raw[0][0][0] = 5.0;
+    input.head_bits = 15;
+    input.reading = 3;
+    assert_eq!(number(&input), 6);
+    input.reading = 2;
+    assert_eq!(number(&input), 7);
+    input.base_raw[0][0][0] = 0.0;
+    assert_eq!(number(&input), 1);
+    input.head_bits = 16;
+    assert_eq!(number(&input), 13);
+    input.head_bits = whole;
+    assert_eq!(number(&input), 13);
+    input.reading = 1;
+    assert_eq!(number(&input), 2);
+    damage::overwrite(&mut input, Part::Head, code, 0);
+    assert_eq!(number(&input), 8);
+    input.nb_steps[0][31] = 0;
+    assert_eq!(number(&input), 0);
+}
+
 #[test]
 fn bounds_of_values_are_in() {
     let mut plan = Plan::plain(2, 0, 0);
@@ -58,11 +151,12 @@ fn bounds_of_values_are_in() {
 
 #[test]
 fn refused_frames_leave_the_state_but_for_the_history_of_5() {
-    let mut seen = [0; 9];
+    let mut seen = [0; 14];
     for seed in 0..8 * Plan::SHAPES {
         let (plan, mut state, mut random) = lent(seed);
         state.count = random.below(6);
         let mut input = plan.input();
+        input.reading = random.pick(&READINGS);
         spoil_bits(&mut random, &plan, &mut input);
         let before = state.clone();
         let Err(refusal) = judge(&input, &mut state) else {
@@ -78,13 +172,13 @@ fn refused_frames_leave_the_state_but_for_the_history_of_5() {
             assert_eq!(state, before, "seed {seed}");
         }
     }
-    for number in [0, 1, 2, 3, 4, 5, 8] {
+    for number in [0, 1, 2, 3, 4, 5, 8, 13] {
         assert!(seen[number] > 0, "{seen:?}");
     }
 }
 
 /// One of the ways to spoil a string, or none.
-fn spoil_bits(random: &mut Random, plan: &Plan, input: &mut oracle::FrameInput) {
+fn spoil_bits(random: &mut Random, plan: &Plan, input: &mut FrameInput) {
     let (head, payload) = (plan.head_written(), plan.payload_written());
     let scalefactors: Vec<_> = payload.all(Kind::Scalefactor).collect();
     let codes: Vec<_> = head.all(Kind::Crosstalk).collect();

@@ -22,18 +22,20 @@ pub enum McError {
     ReservedScalefactor,
     /// The stream so far has another number of output channels.
     ConfigChanged,
-    /// A length, a bit count, the rate, the number of base channels, the LFE allocation, a base step
-    /// count or the state's layout length is out of its bounds.
+    /// A length, a bit count, the reading, the rate, the number of base channels, the LFE allocation, a
+    /// base step count or the state's layout length is out of its bounds.
     InvalidArgument,
     /// A base or history value is beyond -4 to 4 or not a number.
     ValueOutOfRange,
     /// A step count that no class has or at a place that is not transmitted, or an LFE allocation
     /// without LFE.
     InvalidAllocation,
+    /// The header has centre code 2, which reading 2 leaves undefined.
+    UndefinedCentre,
 }
 
 impl McError {
-    /// The number in document 01's table, 1 to 8.
+    /// The number in document 01's table.
     pub const fn number(self) -> u8 {
         match self {
             McError::UnexpectedEnd => 1,
@@ -44,6 +46,7 @@ impl McError {
             McError::InvalidArgument => 6,
             McError::ValueOutOfRange => 7,
             McError::InvalidAllocation => 8,
+            McError::UndefinedCentre => 13,
         }
     }
 }
@@ -62,13 +65,14 @@ impl fmt::Display for McError {
             McError::ReservedScalefactor => "a scalefactor has the reserved code 63",
             McError::ConfigChanged => "the number of output channels changed within the stream",
             McError::InvalidArgument => {
-                "a length, bit count, rate, channel count, LFE allocation or base step count is out \
-                 of its bounds"
+                "a length, bit count, reading, rate, channel count, LFE allocation or base step count \
+                 is out of its bounds"
             }
             McError::ValueOutOfRange => "a base or history value is beyond -4 to 4 or not a number",
             McError::InvalidAllocation => {
                 "a step count or the LFE allocation does not fit what the head transmits"
             }
+            McError::UndefinedCentre => "centre code 2 has no meaning under reading 2",
         })
     }
 }
@@ -80,7 +84,7 @@ impl core::error::Error for McError {}
 pub struct Answer(pub u64);
 
 impl Answer {
-    /// Takes the number apart. The library answers no refusal beyond 8.
+    /// Takes the number apart. The library answers no refusal but these.
     pub fn result(self) -> Result<Used, McError> {
         let (low, high) = (self.0 as u32 >> 8, (self.0 >> 32) as u32);
         Err(match self.0 as u8 {
@@ -101,6 +105,7 @@ impl Answer {
             6 => McError::InvalidArgument,
             7 => McError::ValueOutOfRange,
             8 => McError::InvalidAllocation,
+            13 => McError::UndefinedCentre,
             other => unreachable!("there is no refusal {other}"),
         })
     }

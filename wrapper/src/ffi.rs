@@ -12,7 +12,7 @@ pub struct McDecodeState {
 unsafe extern "C" {
     pub fn mc_fresh_state(state: *mut McDecodeState) -> u32;
 
-    pub fn mc_decode_frame(
+    pub fn mc_decode_frame_reading(
         state: *mut McDecodeState,
         head: *const u8,
         head_len: usize,
@@ -20,6 +20,7 @@ unsafe extern "C" {
         payload: *const u8,
         payload_len: usize,
         payload_bits: usize,
+        reading: u32,
         rate: u32,
         base_channels: u8,
         raw_left: *const f64,

@@ -15,6 +15,7 @@
 //!     head_bits: 35,
 //!     payload: &[],
 //!     payload_bits: 0,
+//!     reading: 1,
 //!     rate: 48_000,
 //!     base_channels: 1,
 //!     raw_left: &base,
@@ -115,6 +116,9 @@ pub struct Frame<'a> {
     pub payload: &'a [u8],
     /// At most eight times the bytes.
     pub payload_bits: usize,
+    /// The reading of the transfer guide, 1 or 2. Reading 1 is the standard's text as the published
+    /// Rust takes it; under reading 2 a header with centre code 2 is refused.
+    pub reading: u32,
     /// 32,000, 44,100 or 48,000.
     pub rate: u32,
     /// 1 or 2; with one the right-hand slices are empty.
@@ -162,10 +166,11 @@ pub fn decode_packed(state: &mut McState, frame: &Frame<'_>, buffers: &mut Buffe
     // borrowed mutably and so overlaps nothing, and the library takes any lengths and numbers.
     #[rustfmt::skip]
     let answer = unsafe {
-        ffi::mc_decode_frame(
+        ffi::mc_decode_frame_reading(
             &mut state.0,
             frame.head.as_ptr(), frame.head.len(), frame.head_bits,
             frame.payload.as_ptr(), frame.payload.len(), frame.payload_bits,
+            frame.reading,
             frame.rate,
             frame.base_channels,
             frame.raw_left.as_ptr(), frame.raw_left.len(),

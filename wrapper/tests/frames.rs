@@ -9,6 +9,7 @@ struct Lent {
     head: Vec<u8>,
     head_bits: usize,
     payload: Vec<u8>,
+    reading: u32,
     rate: u32,
     base_channels: u8,
     base: [Vec<f64>; 4],
@@ -24,6 +25,7 @@ impl Lent {
             head: vec![0; 5],
             head_bits: 35,
             payload: vec![],
+            reading: 1,
             rate: 48_000,
             base_channels: 2,
             base: [0.25, 0.5, -1.0, 2.0].map(|value| vec![value; 1152]),
@@ -40,6 +42,7 @@ impl Lent {
             head_bits: self.head_bits,
             payload: &self.payload,
             payload_bits: 8 * self.payload.len(),
+            reading: self.reading,
             rate: self.rate,
             base_channels: self.base_channels,
             raw_left: &self.base[0],
@@ -74,20 +77,23 @@ impl Lent {
 }
 
 #[test]
-fn smallest_frame_is_accepted() {
-    let (mut lent, mut state) = (Lent::smallest(), McState::new());
-    let used = Used {
-        head_bits: 35,
-        payload_bits: 0,
-    };
-    assert_eq!(lent.decode(&mut state), Ok(used));
-    let [raw, work, output, lfe] = &lent.written;
-    for silent in [raw, work, lfe, &output[2 * 1152..].to_vec()] {
-        assert!(silent.iter().all(|value| value.to_bits() == 0));
+fn smallest_frame_is_accepted_under_both_readings() {
+    for reading in [1, 2] {
+        let (mut lent, mut state) = (Lent::smallest(), McState::new());
+        lent.reading = reading;
+        let used = Used {
+            head_bits: 35,
+            payload_bits: 0,
+        };
+        assert_eq!(lent.decode(&mut state), Ok(used));
+        let [raw, work, output, lfe] = &lent.written;
+        for silent in [raw, work, lfe, &output[2 * 1152..].to_vec()] {
+            assert!(silent.iter().all(|value| value.to_bits() == 0));
+        }
+        assert_eq!((output[0], output[1152]), (-1.0, 2.0));
+        assert_eq!((state.layout_len(), state.accepted()), (2, 1));
+        assert_eq!((state.history()[287], state.history()[288]), (-1.0, 2.0));
     }
-    assert_eq!((output[0], output[1152]), (-1.0, 2.0));
-    assert_eq!((state.layout_len(), state.accepted()), (2, 1));
-    assert_eq!((state.history()[287], state.history()[288]), (-1.0, 2.0));
 }
 
 #[test]
@@ -118,6 +124,47 @@ fn unlisted_crosstalk_code() {
     lent.refused(McError::ForbiddenDynCrossMode { sbgr: 1, mode: 15 });
 }
 
+/// Centre code 2 under this reading.
+fn centre_code_2(reading: u32) -> Lent {
+    let mut lent = Lent::smallest();
+    lent.head[0] = 0x40;
+    lent.reading = reading;
+    lent
+}
+
+#[test]
+fn centre_code_2_is_taken_under_reading_1() {
+    let mut state = McState::new();
+    let used = centre_code_2(1).decode(&mut state);
+    assert_eq!(used.map(|used| used.head_bits), Ok(35));
+    assert_eq!((state.layout_len(), state.accepted()), (2, 1));
+}
+
+#[test]
+fn centre_code_2_is_refused_under_reading_2() {
+    centre_code_2(2).refused(McError::UndefinedCentre);
+    let mut mono = centre_code_2(2);
+    mono.base_channels = 1;
+    mono.base[1].clear();
+    mono.base[3].clear();
+    mono.base_nb_steps.truncate(32);
+    mono.refused(McError::UndefinedCentre);
+}
+
+/// After the header's 16 bits and before the check word.
+#[test]
+fn undefined_centre_of_a_short_head() {
+    for (reading, head_bits, error) in [
+        (1, 16, McError::UnexpectedEnd),
+        (2, 16, McError::UndefinedCentre),
+        (2, 15, McError::UnexpectedEnd),
+    ] {
+        let mut lent = centre_code_2(reading);
+        lent.head_bits = head_bits;
+        lent.refused(error);
+    }
+}
+
 #[test]
 fn layer_three_flag() {
     let mut lent = Lent::smallest();
@@ -143,11 +190,16 @@ fn changed_layout_stores_the_history() {
     assert_eq!((state.history()[0], state.history()[575]), (-1.0, 2.0));
 }
 
+/// Reading 257 has 1 in its lowest byte.
 #[test]
 fn wrong_arguments() {
-    let wrong: [fn(&mut Lent); 14] = [
+    let wrong: [fn(&mut Lent); 18] = [
         |lent| lent.head_bits = 41,
         |lent| lent.head = vec![0; 8193],
+        |lent| lent.reading = 0,
+        |lent| lent.reading = 3,
+        |lent| lent.reading = 257,
+        |lent| lent.reading = u32::MAX,
         |lent| lent.rate = 22_050,
         |lent| lent.base_channels = 3,
         |lent| lent.base_channels = 1,
@@ -202,7 +254,7 @@ fn answers_and_words() {
         payload_bits: 55_134,
     };
     assert_eq!(Answer(55_134 << 32 | 232 << 8).result(), Ok(used));
-    for number in 1..=8 {
+    for number in [1, 2, 3, 4, 5, 6, 7, 8, 13] {
         let answer = if number == 2 {
             15 << 32 | 11 << 8 | 2
         } else {

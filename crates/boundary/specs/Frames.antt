@@ -10,14 +10,15 @@ use Rattle.boundary_run.specs.String.{nothing, bytesOf}
 use Rattle.boundary_run.specs.Loan.{stepAt, byteFrom, onesAt}
 use Rattle.boundary.specs.Heads.{written, plainHead, crossedHead, longestHead}
 
--- at 44,100 Hz, the right base channel from -1.5 on; the rest as named
-abbrev pub lent : Bits → ℕ → List ℕ → ℕ → ℕ → Float → ℕ → List ℕ → Loan
-lent head headBits payload payloadBits baseChannels left lfe steps =
+-- at 44,100 Hz, the right base channel from -1.5 on; the rest as named, first the reading
+abbrev pub lent : ℕ → Bits → ℕ → List ℕ → ℕ → ℕ → Float → ℕ → List ℕ → Loan
+lent reading head headBits payload payloadBits baseChannels left lfe steps =
     record {
       head = bytesOf (head .bits);
       «head_bits» = headBits;
       payload = payload;
       «payload_bits» = payloadBits;
+      reading = reading;
       rate = 44100;
       «base_channels» = baseChannels;
       left = left;
@@ -45,7 +46,7 @@ payloadOf b = tab (byteFrom (bytesOf (b .bits))) 6892
 
 -- nothing transmitted, the left base channel from this value on: 3/2, 3/1 and 2/2 by their heads
 abbrev pub empty : Bits → Float → Loan
-empty head left = lent head (head .at) noPayload 0 2 left 0 noSteps
+empty head left = lent 1 head (head .at) noPayload 0 2 left 0 noSteps
 
 abbrev pub threeTwo : Float → Loan
 threeTwo left = empty (plainHead 1 2 3 0 0) left
@@ -60,27 +61,27 @@ twoTwo left = empty (plainHead 0 2 2 0 0) left
 abbrev pub scalefactorFrame : ℕ → Loan
 scalefactorFrame code =
     let head = plainHead 1 2 3 0 0 in
-    lent head (head .at) (payloadOf (written nothing ((2, 0) ∷ (6, 0) ∷ (6, 0) ∷ (6, code) ∷ []))) 128 2 quarter 0 (firstSteps 1 1 7)
+    lent 1 head (head .at) (payloadOf (written nothing ((2, 0) ∷ (6, 0) ∷ (6, 0) ∷ (6, code) ∷ []))) 128 2 quarter 0 (firstSteps 1 1 7)
 
 -- this LFE scalefactor, and twelve LFE codes of 2 bits
 abbrev pub lfeFrame : ℕ → Loan
 lfeFrame code =
     let head = plainHead 1 2 3 1 0 in
-    lent head (head .at) (payloadOf (written nothing ((6, code) ∷ []))) 30 2 quarter 1 noSteps
+    lent 1 head (head .at) (payloadOf (written nothing ((6, code) ∷ []))) 30 2 quarter 1 noSteps
 
 -- every field at its longest, in strings of these bit counts
 abbrev pub longestFrame : ℕ → ℕ → Loan
-longestFrame headBits payloadBits = lent longestHead headBits noPayload payloadBits 2 quarter 15 (firstSteps 3 30 65535)
+longestFrame headBits payloadBits = lent 1 longestHead headBits noPayload payloadBits 2 quarter 15 (firstSteps 3 30 65535)
 
 -- mono base, phantom centre, second stereo: 7 steps in the first subbands, 30 bytes of 0 and then samples whose bits are all 1
 abbrev pub phantomFrame : ℕ → Loan
 phantomFrame subbands =
     let head = plainHead 3 3 0 0 0 in
-    lent head (head .at) (tab (onesAt 30 192) 6892) 1536 1 quarter 0 (firstSteps 1 subbands 7)
+    lent 1 head (head .at) (tab (onesAt 30 192) 6892) 1536 1 quarter 0 (firstSteps 1 subbands 7)
 
 -- mono base, no centre, stereo surround
 abbrev pub monoSurround : Loan
-monoSurround = let head = plainHead 0 2 0 0 0 in lent head (head .at) noPayload 0 1 quarter 0 noSteps
+monoSurround = let head = plainHead 0 2 0 0 0 in lent 1 head (head .at) noPayload 0 1 quarter 0 noSteps
 
 -- a crosstalk code in group 5
 abbrev pub forbiddenFrame : ℕ → Loan
@@ -90,6 +91,10 @@ forbiddenFrame code = empty (crossedHead 5 code 6) quarter
 abbrev pub layerThree : Loan
 layerThree = empty (plainHead 1 2 3 0 1) quarter
 
+-- a centre code, no surround and nothing transmitted, under a reading
+abbrev pub centreFrame : ℕ → ℕ → Float → Loan
+centreFrame code reading left = let head = plainHead code 0 0 0 0 in lent reading head (head .at) noPayload 0 2 left 0 noSteps
+
 -- a phantom centre and step counts up to its subband 12
 abbrev pub barredFrame : Loan
-barredFrame = let head = plainHead 3 2 3 0 0 in lent head (head .at) noPayload 0 2 quarter 0 (firstSteps 1 13 7)
+barredFrame = let head = plainHead 3 2 3 0 0 in lent 1 head (head .at) noPayload 0 2 quarter 0 (firstSteps 1 13 7)

@@ -1,6 +1,6 @@
 // The frames.
 ghost use mathlib.Core.Path.{_≡_};
-ghost use Rattle.boundary.specs.Frames.{threeTwo, threeOne, twoTwo, scalefactorFrame, lfeFrame, longestFrame, phantomFrame, monoSurround, forbiddenFrame, layerThree, barredFrame};
+ghost use Rattle.boundary.specs.Frames.{threeTwo, threeOne, twoTwo, scalefactorFrame, lfeFrame, longestFrame, phantomFrame, monoSurround, forbiddenFrame, layerThree, barredFrame, centreFrame};
 use crate::heads::crossed_head;
 use crate::heads::longest_head;
 use crate::heads::plain_head;
@@ -128,5 +128,15 @@ pub fn barred() -> Loan
     let steps = first_steps(1, 13, 7);
     let mut loan = Loan::new(plain_head(3, 2, 3, 0, 0));
     loan.steps = steps;
+    loan
+}
+
+// A centre code without surround, under a reading; nothing transmitted, the base begins with this value.
+pub fn centre_code(code: u32, reading: u32, left: f64) -> Loan
+    ensures { λ r. ⌜ r ≡ centreFrame code reading left ⌝ }
+{
+    let mut loan = Loan::new(plain_head(code, 0, 0, 0, 0));
+    loan.reading = reading;
+    loan.left = left;
     loan
 }

@@ -1,5 +1,6 @@
 // The lines, in document 01's order.
 use crate::frames::barred;
+use crate::frames::centre_code;
 use crate::frames::forbidden;
 use crate::frames::layer_three;
 use crate::frames::lfe_scalefactor;
@@ -94,7 +95,7 @@ pub fn mono_lines() {
     surround_line();
 }
 
-// Each refusal, in a state of 3/2 whose history is of another base.
+// Each refusal of document 01, in a state of 3/2 whose history is of another base.
 pub fn refusal_lines() {
     let state = line(b"3/2", three_two(0.125), McDecodeState::new());
     let mut empty = three_two(0.5);
@@ -110,4 +111,33 @@ pub fn refusal_lines() {
     // the last base value is 1/1024 above 4
     line(b"base value above 4", three_two(2.876953125), state);
     line(b"step count in a barred subband", barred(), state);
+}
+
+// Centre code 2 under both readings, and readings that there are not, in a state of 2/0.
+pub fn reading_lines() {
+    let state = line(
+        b"centre code 2, reading 1",
+        centre_code(2, 1, 0.125),
+        McDecodeState::new(),
+    );
+    let second = centre_code(2, 2, 0.5);
+    line(b"centre code 2, reading 2", second, state);
+    let mut mono = second;
+    mono.base_channels = 1;
+    line(
+        b"centre code 2 over one base channel, reading 2",
+        mono,
+        state,
+    );
+    // a header of 16 bits, and no check word
+    let mut header = centre_code(2, 1, 0.5);
+    header.head_bits = 16;
+    line(b"header alone, reading 1", header, state);
+    header.reading = 2;
+    line(b"header alone, reading 2", header, state);
+    header.head_bits = 15;
+    line(b"one header bit fewer, reading 2", header, state);
+    line(b"no centre, reading 2", centre_code(0, 2, 0.5), state);
+    line(b"reading 0", centre_code(0, 0, 0.5), state);
+    line(b"reading 3", centre_code(0, 3, 0.5), state);
 }

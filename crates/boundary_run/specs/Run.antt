@@ -21,7 +21,7 @@ one64 = ofBits binary64 0x3FF0000000000000
 -- the loan with these base channels, raw and scaled, and base step counts
 abbrev pub lentBy : Loan → List Float → List Float → List ℕ → Lent
 lentBy loan left right baseSteps =
-    lentOf (loan .head) (loan .«head_bits») (loan .payload) (loan .«payload_bits») (loan .rate) (loan .«base_channels») (baseFrom left right left right) baseSteps (loan .«lfe_allocation») (loan .steps)
+    lentOf (loan .head) (loan .«head_bits») (loan .payload) (loan .«payload_bits») (loan .reading) (loan .rate) (loan .«base_channels») (baseFrom left right left right) baseSteps (loan .«lfe_allocation») (loan .steps)
 
 -- how many of n a second base channel has
 abbrev pub secondLength : ℕ → ℕ → ℕ

@@ -11,6 +11,7 @@ pub struct Loan {
     // of the longest payload, 55,134 bits
     pub payload: [u8; 6892],
     pub payload_bits: usize,
+    pub reading: u32,
     pub rate: u32,
     pub base_channels: u8,
     // the first base value of each channel, raw and scaled
@@ -21,7 +22,7 @@ pub struct Loan {
 }
 
 impl Loan {
-    // The head, a stereo base at 44,100 Hz, and no payload.
+    // The head under reading 1, a stereo base at 44,100 Hz, and no payload.
     pub fn new(head: Bits) -> Loan
         ensures { λ r. ⌜ r ≡ loanOf head ⌝ }
     {
@@ -32,6 +33,7 @@ impl Loan {
             head_bits: head.at,
             payload: [0; 6892],
             payload_bits: 0,
+            reading: 1,
             rate: 44100,
             base_channels: 2,
             left: 0.25,

@@ -81,6 +81,7 @@ fn call<'a>(
         loan.head_bits,
         &payload,
         loan.payload_bits,
+        loan.reading,
         loan.rate,
         loan.base_channels,
         left,

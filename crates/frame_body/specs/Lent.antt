@@ -27,13 +27,17 @@ stateOf bytes = record { «pred_hist» = tab (valueAt bytes 5) 576; «layout_len
 abbrev pub between : {A : Type 0} → ℕ → ℕ → List A → List A
 between a e xs = take (e - a) (drop a xs)
 
+-- a frame file is read under reading 1
+abbrev pub fileReading : ℕ
+fileReading = 1
+
 -- what is lent of these bytes, step counts and values
 unfoldable pub lentFrom : Numbers → List ℕ → List ℕ → List Float → Lent
 lentFrom n body steps values =
     let channels = n .«base_channels» in
     lentOf (between (headAt n) (payloadAt n) body) (n .«head_bits»)
     (between (payloadAt n) (valuesAt n) body) (n .«payload_bits»)
-    (n .rate) channels
+    fileReading (n .rate) channels
     (baseFrom (between 0 1152 values) (between 1152 (1152 * channels) values) (between (1152 * channels) (1152 * channels + 1152) values) (between (1152 * channels + 1152) (2304 * channels) values))
     (between 0 (32 * channels) steps)
     (n .«lfe_allocation»)

@@ -25,12 +25,12 @@ use Rattle.frame_body.specs.Lent.{lentFrom, lentIn, layoutFor}
 
 -- ---- the layout
 
-module _ (r : McHead) (bytes : List ℕ) (bits base : ℕ) (e : outcomeOf r ≡ headOf bytes bits base) where
-  pub layout-accepted : (used : ℕ) → r .answer ≡ Accepted used → (config : McConfig) → config ≡ configOf (r .header) base → (l : Layout) → l ≡ layoutRecord config → l ≡ layoutFor (headOf bytes bits base) base
+module _ (r : McHead) (reading : ℕ) (bytes : List ℕ) (bits base : ℕ) (e : outcomeOf r ≡ headOf reading bytes bits base) where
+  pub layout-accepted : (used : ℕ) → r .answer ≡ Accepted used → (config : McConfig) → config ≡ configOf (r .header) base → (l : Layout) → l ≡ layoutRecord config → l ≡ layoutFor (headOf reading bytes bits base) base
   unfolding layoutFor
   layout-accepted used q config ec l el = el ∙ (ap layoutRecord ec ∙ (rw (← e, q)))
 
-  pub layout-refused : (x : McError) → r .answer ≡ Refused x → laid [] ≡ layoutFor (headOf bytes bits base) base
+  pub layout-refused : (x : McError) → r .answer ≡ Refused x → laid [] ≡ layoutFor (headOf reading bytes bits base) base
   unfolding layoutFor
   layout-refused x q = rw (← e, q)
 

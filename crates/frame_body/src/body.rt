@@ -3,7 +3,7 @@ ghost use mathlib.Core.Path.{_≡_};
 ghost use Rattle.mc_state.specs.Answer.{buffersFrom, afterOf};
 ghost use Rattle.mc_state.specs.Frame.{frameOf};
 ghost use Rattle.mc_fields.specs.Lent.{headOf};
-ghost use Rattle.frame_body.specs.Lent.{Whole, Cut, lentFrom, lentIn, layoutFor, stateOf};
+ghost use Rattle.frame_body.specs.Lent.{Whole, Cut, fileReading, lentFrom, lentIn, layoutFor, stateOf};
 use encoding::u8_at;
 use encoding::u32_at;
 use frame_file::Numbers;
@@ -16,6 +16,9 @@ use mc_head::HeadAnswer;
 use mc_head::read_head;
 use mc_state::Framed;
 use mc_state::McDecodeState;
+
+// A frame file is read under reading 1.
+const READING: u32 = 1;
 
 // The frame call on a frame's bytes, step counts and values.
 fn decode_parts(
@@ -47,6 +50,7 @@ fn decode_parts(
         n.head_bits as usize,
         &body[payload..end],
         n.payload_bits as usize,
+        READING,
         n.rate,
         n.base_channels,
         &values[0..1152],
@@ -99,9 +103,9 @@ pub fn decode_body(
 
 // The output channels of a head; none of a refused one.
 pub fn layout_of(head: &[u8], bits: usize, base_channels: u8) -> Layout
-    ensures { λ r. ⌜ r ≡ layoutFor (headOf (now (head .entry)) bits «base_channels») «base_channels» ⌝ }
+    ensures { λ r. ⌜ r ≡ layoutFor (headOf fileReading (now (head .entry)) bits «base_channels») «base_channels» ⌝ }
 {
-    let found = read_head(head, bits, base_channels);
+    let found = read_head(head, bits, READING, base_channels);
     let answer = found.answer;
     match answer {
         HeadAnswer::Accepted(_) => {

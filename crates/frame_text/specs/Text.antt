@@ -8,7 +8,7 @@ use lib.ListN.{length, take}
 use Rattle.fill.specs.Ascii.{ascii}
 use Rattle.mc_config.specs.Config.{left, right, centre, leftSurround, rightSurround, monoSurround, secondLeft}
 use Rattle.mc_error.specs.declared.McError.{McError}
-use Rattle.mc_error.specs.declared.McError.the-variants.{UnexpectedEnd, ForbiddenDynCrossMode, MlLayer3Unsupported, ReservedScalefactor, ConfigChanged, InvalidArgument, ValueOutOfRange, InvalidAllocation}
+use Rattle.mc_error.specs.declared.McError.the-variants.{UnexpectedEnd, ForbiddenDynCrossMode, MlLayer3Unsupported, ReservedScalefactor, ConfigChanged, InvalidArgument, ValueOutOfRange, InvalidAllocation, UndefinedCentre}
 use Rattle.frame_text.specs.declared.text.Text.{Text}
 
 -- the first bytes of t are s, and so many are said
@@ -38,3 +38,4 @@ wordsOf ConfigChanged = ascii "the layout has another number of channels than be
 wordsOf InvalidArgument = ascii "a bit count, rate, LFE allocation, base step count or layout count is wrong"
 wordsOf ValueOutOfRange = ascii "a base or history value is not within -4 to 4"
 wordsOf InvalidAllocation = ascii "a step count or LFE allocation that the head does not admit"
+wordsOf UndefinedCentre = ascii "the centre code is 2, which has no meaning under reading 2"

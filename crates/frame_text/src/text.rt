@@ -60,5 +60,8 @@ pub fn words_of(e: McError) -> Text
         McError::InvalidAllocation => {
             text_of(b"a step count or LFE allocation that the head does not admit")
         }
+        McError::UndefinedCentre => {
+            text_of(b"the centre code is 2, which has no meaning under reading 2")
+        }
     }
 }

@@ -50,6 +50,7 @@ pub fn unpacked_frame<'a>(
     head_bits: usize,
     payload: &[u8],
     payload_bits: usize,
+    reading: u32,
     rate: u32,
     base_channels: u8,
     raw_left: &'a [f64],
@@ -66,9 +67,10 @@ pub fn unpacked_frame<'a>(
 ) -> Framed
     requires { ⌜ Long «base_channels» (baseFrom (now «raw_left») (now «raw_right») (now «scaled_left») (now «scaled_right»)) (buffersFrom (now raw) (now work) (now output) (now lfe)) ⌝ }
     requires { ⌜ «lfe_allocation» ≤ 15 ⌝ }
-    ensures { λ r. ⌜ afterOf r (buffersFrom (now (raw .exit)) (now (work .exit)) (now (output .exit)) (now (lfe .exit))) ≡ afterUnpacked state (settingsOf (loanBy rate «base_channels» header status «lfe_allocation» (now («nb_steps» .entry)) (now («base_nb_steps» .entry)))) «head_bits» (now (payload .entry)) «payload_bits» (baseFrom (now («raw_left» .entry)) (now («raw_right» .entry)) (now («scaled_left» .entry)) (now («scaled_right» .entry))) (buffersFrom (now (raw .entry)) (now (work .entry)) (now (output .entry)) (now (lfe .entry))) ⌝ }
+    ensures { λ r. ⌜ afterOf r (buffersFrom (now (raw .exit)) (now (work .exit)) (now (output .exit)) (now (lfe .exit))) ≡ afterUnpacked state (settingsOf (loanBy reading rate «base_channels» header status «lfe_allocation» (now («nb_steps» .entry)) (now («base_nb_steps» .entry)))) «head_bits» (now (payload .entry)) «payload_bits» (baseFrom (now («raw_left» .entry)) (now («raw_right» .entry)) (now («scaled_left» .entry)) (now («scaled_right» .entry))) (buffersFrom (now (raw .entry)) (now (work .entry)) (now (output .entry)) (now (lfe .entry))) ⌝ }
 {
     let s = settings(
+        reading,
         rate,
         base_channels,
         header,

@@ -66,6 +66,7 @@ pub fn lent_fits(
     head_bits: usize,
     payload: &[u8],
     payload_bits: usize,
+    reading: u32,
     rate: u32,
     base_channels: u8,
     raw_left: &[f64],
@@ -81,11 +82,18 @@ pub fn lent_fits(
     lfe: usize,
     layout_len: u8,
 ) -> bool
-    ensures { λ r. ⌜ r ≡ lentBy (lentOf (now (head .entry)) «head_bits» (now (payload .entry)) «payload_bits» rate «base_channels» (baseFrom (now («raw_left» .entry)) (now («raw_right» .entry)) (now («scaled_left» .entry)) (now («scaled_right» .entry))) (now («base_nb_steps» .entry)) «lfe_allocation» (now («nb_steps» .entry))) raw work output lfe «layout_len» ⌝ }
+    ensures { λ r. ⌜ r ≡ lentBy (lentOf (now (head .entry)) «head_bits» (now (payload .entry)) «payload_bits» reading rate «base_channels» (baseFrom (now («raw_left» .entry)) (now («raw_right» .entry)) (now («scaled_left» .entry)) (now («scaled_right» .entry))) (now («base_nb_steps» .entry)) «lfe_allocation» (now («nb_steps» .entry))) raw work output lfe «layout_len» ⌝ }
 {
     let strings = string_fits(head, head_bits);
     let payloads = string_fits(payload, payload_bits);
-    let loan = loan_fits(rate, base_channels, lfe_allocation, nb_steps, base_nb_steps);
+    let loan = loan_fits(
+        reading,
+        rate,
+        base_channels,
+        lfe_allocation,
+        nb_steps,
+        base_nb_steps,
+    );
     let values = values_long(
         base_channels,
         raw_left.len(),

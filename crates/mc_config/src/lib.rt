@@ -1,7 +1,8 @@
-// What a header of the multichannel extension decides: channels and layout (ISO/IEC 13818-3, 2.5.2.13).
+// What a header of the multichannel extension decides: channels and layout (ISO/IEC 13818-3, 2.5.2.13); and the readings of the transfer guide.
 
 mod config;
 mod layout;
+mod reading;
 
 pub use layout::CENTRE;
 pub use layout::LEFT;
@@ -12,6 +13,8 @@ pub use layout::RIGHT;
 pub use layout::RIGHT_SURROUND;
 pub use layout::SECOND_LEFT;
 pub use layout::SECOND_RIGHT;
+pub use reading::centre_stops;
+pub use reading::reading_fits;
 
 // The fields of mc_header() as read: centre code 2, which the standard leaves undefined, is kept.
 pub struct McHeader {

@@ -8,6 +8,7 @@ use lib.ListN.{length}
 use Rattle.mc_error.specs.declared.McError.{McError}
 use Rattle.mc_error.specs.declared.McError.the-variants.{InvalidArgument, ValueOutOfRange}
 use Rattle.mc_head.specs.Answer
+use Rattle.mc_config.specs.Reading.{readingFits}
 use Rattle.mc_fields.specs.Lent.{stringFits, baseFits, headOf}
 use Rattle.mc_head.specs.declared.HeadAnswer.the-variants.{Accepted as HeadAccepted, Refused as HeadRefused}
 use Rattle.mc_head.specs.declared.McHead.{McHead}
@@ -29,14 +30,14 @@ module _ (l : Lent) (w : Buffers) (st : McDecodeState) (a : Bool) (ea : a ≡ le
     fits = sym ea ∙ not-false a ta
 
     -- a loan and lengths that fit
-    parts : (loanFits (l .rate) (l .baseChannels) (l .lfe) (l .steps) (l .baseSteps) ≡ true)
+    parts : (loanFits (l .reading) (l .rate) (l .baseChannels) (l .lfe) (l .steps) (l .baseSteps) ≡ true)
         × ((valuesLong (l .baseChannels) (length (l .base .rawLeft)) (length (l .base .rawRight)) (length (l .base .scaledLeft)) (length (l .base .scaledRight)) ≡ true)
         × (roomFits (length (w .raw)) (length (w .work)) (length (w .output)) (length (w .lfe)) ≡ true))
     unfolding lentBy
     parts =
         let b = both-true (stringFits (l .head) (l .headBits)) _ fits in
         let c = both-true (stringFits (l .payload) (l .payloadBits)) _ (b .1) in
-        let d = both-true (loanFits (l .rate) (l .baseChannels) (l .lfe) (l .steps) (l .baseSteps)) _ (c .1) in
+        let d = both-true (loanFits (l .reading) (l .rate) (l .baseChannels) (l .lfe) (l .steps) (l .baseSteps)) _ (c .1) in
         let e = both-true (valuesLong (l .baseChannels) (length (l .base .rawLeft)) (length (l .base .rawRight)) (length (l .base .scaledLeft)) (length (l .base .scaledRight))) _ (d .1) in
         let f = both-true (roomFits (length (w .raw)) (length (w .work)) (length (w .output)) (length (w .lfe))) _ (e .1) in
         (d .0, (e .0, f .0))
@@ -44,7 +45,8 @@ module _ (l : Lent) (w : Buffers) (st : McDecodeState) (a : Bool) (ea : a ≡ le
     pub lfe-low : l .lfe ≤ 15
     unfolding loanFits
     lfe-low =
-        let b = both-true (rateFits (l .rate)) _ (parts .0) in
+        let k = both-true (readingFits (l .reading)) _ (parts .0) in
+        let b = both-true (rateFits (l .rate)) _ (k .1) in
         let c = both-true (baseFits (l .baseChannels)) _ (b .1) in
         leb-true (l .lfe) 15 (both-true (leb (l .lfe) 15) _ (c .1) .0)
 
@@ -73,13 +75,13 @@ module _ (l : Lent) (w : Buffers) (st : McDecodeState) (a : Bool) (ea : a ≡ le
       unfolding frameOf verdictOf answerOf buffersOf stateOf
       after-values t = rw (← ea, not-false a ta, ← eb, not-true b t)
 
-      module _ (tb : not b ≡ false) (h : McHead) (eh : Answer.outcomeOf h ≡ headOf (l .head) (l .headBits) (l .baseChannels)) where
+      module _ (tb : not b ≡ false) (h : McHead) (eh : Answer.outcomeOf h ≡ headOf (l .reading) (l .head) (l .headBits) (l .baseChannels)) where
         pub after-head : (e : McError) → h .answer ≡ HeadRefused e → afterOf (record { answer = Refused e; state = st }) w ≡ frameOf l w st
         unfolding frameOf verdictOf verdictHead answerOf buffersOf stateOf
         after-head e q = rw (← ea, not-false a ta, ← eb, not-false b tb, ← eh, q)
 
         pub after-payload : (used : ℕ) → h .answer ≡ HeadAccepted used → (r : After)
-            → r ≡ afterUnpacked st (settingsOf (loanBy (l .rate) (l .baseChannels) (h .header) (h .status) (l .lfe) (l .steps) (l .baseSteps))) used (l .payload) (l .payloadBits) (l .base) w
+            → r ≡ afterUnpacked st (settingsOf (loanBy (l .reading) (l .rate) (l .baseChannels) (h .header) (h .status) (l .lfe) (l .steps) (l .baseSteps))) used (l .payload) (l .payloadBits) (l .base) w
             → r ≡ frameOf l w st
         unfolding frameOf verdictOf verdictHead afterUnpacked
         after-payload used q r e = e ∙ rw (← ea, not-false a ta, ← eb, not-false b tb, ← eh, q)

@@ -20,6 +20,7 @@ pub fn frame<'h, 'p, 'a, 'b, 'n, 'r, 'w, 'o, 'l>(
     head_bits: usize,
     payload: &'p [u8],
     payload_bits: usize,
+    reading: u32,
     rate: u32,
     base_channels: u8,
     raw_left: &'a [f64],
@@ -34,13 +35,14 @@ pub fn frame<'h, 'p, 'a, 'b, 'n, 'r, 'w, 'o, 'l>(
     output: &'o mut [f64],
     lfe: &'l mut [f64],
 ) -> Framed
-    ensures { λ r. ⌜ afterOf r (buffersFrom (now (raw .exit)) (now (work .exit)) (now (output .exit)) (now (lfe .exit))) ≡ frameOf (lentOf (now (head .entry)) «head_bits» (now (payload .entry)) «payload_bits» rate «base_channels» (baseFrom (now («raw_left» .entry)) (now («raw_right» .entry)) (now («scaled_left» .entry)) (now («scaled_right» .entry))) (now («base_nb_steps» .entry)) «lfe_allocation» (now («nb_steps» .entry))) (buffersFrom (now (raw .entry)) (now (work .entry)) (now (output .entry)) (now (lfe .entry))) state ⌝ }
+    ensures { λ r. ⌜ afterOf r (buffersFrom (now (raw .exit)) (now (work .exit)) (now (output .exit)) (now (lfe .exit))) ≡ frameOf (lentOf (now (head .entry)) «head_bits» (now (payload .entry)) «payload_bits» reading rate «base_channels» (baseFrom (now («raw_left» .entry)) (now («raw_right» .entry)) (now («scaled_left» .entry)) (now («scaled_right» .entry))) (now («base_nb_steps» .entry)) «lfe_allocation» (now («nb_steps» .entry))) (buffersFrom (now (raw .entry)) (now (work .entry)) (now (output .entry)) (now (lfe .entry))) state ⌝ }
 {
     if !lent_fits(
         head,
         head_bits,
         payload,
         payload_bits,
+        reading,
         rate,
         base_channels,
         raw_left,
@@ -73,7 +75,7 @@ pub fn frame<'h, 'p, 'a, 'b, 'n, 'r, 'w, 'o, 'l>(
             state,
         };
     }
-    let first = read_head(head, head_bits, base_channels);
+    let first = read_head(head, head_bits, reading, base_channels);
     let answer = first.answer;
     match answer {
         HeadAnswer::Refused(e) => Framed {
@@ -90,6 +92,7 @@ pub fn frame<'h, 'p, 'a, 'b, 'n, 'r, 'w, 'o, 'l>(
                 used,
                 payload,
                 payload_bits,
+                reading,
                 rate,
                 base_channels,
                 raw_left,

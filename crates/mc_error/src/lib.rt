@@ -11,6 +11,7 @@ pub enum McError {
     InvalidArgument,
     ValueOutOfRange,
     InvalidAllocation,
+    UndefinedCentre,
 }
 
 impl McError {
@@ -27,6 +28,7 @@ impl McError {
             McError::InvalidArgument => 6,
             McError::ValueOutOfRange => 7,
             McError::InvalidAllocation => 8,
+            McError::UndefinedCentre => 13,
         }
     }
 
@@ -43,6 +45,7 @@ impl McError {
             McError::InvalidArgument => 0,
             McError::ValueOutOfRange => 0,
             McError::InvalidAllocation => 0,
+            McError::UndefinedCentre => 0,
         }
     }
 
@@ -59,6 +62,7 @@ impl McError {
             McError::InvalidArgument => 0,
             McError::ValueOutOfRange => 0,
             McError::InvalidAllocation => 0,
+            McError::UndefinedCentre => 0,
         }
     }
 }

@@ -4,10 +4,11 @@ use mathlib.Core.List.{List}
 use Prim.Native.Nat.{ℕ, zero, suc, _+_, _*_}
 use lib.Dec.{eqb, ltb}
 use lib.ListN.{getD, set, replicate}
-use Rattle.bits.specs.Syntax.{Syntax, done, refuse, field, bind, both, times}
+use Rattle.bits.specs.Syntax.{plain, Syntax, done, refuse, field, bind, both, times}
 use Rattle.mc_config.specs.declared.McHeader.{McHeader}
 use Rattle.mc_config.specs.declared.McConfig.{McConfig}
 use Rattle.mc_config.specs.Config.{configOf, pairOf}
+use Rattle.mc_config.specs.Reading.{centreStops}
 use Rattle.mc_crosstalk.specs.Crosstalk.{listed, predictorsOf}
 use Rattle.mc_fields.specs.declared.McStatus.{McStatus}
 
@@ -124,6 +125,10 @@ mcCompositeStatusInfo c =
       «mc_prediction» = counts;
     }))))))))
 
--- the whole head over one or two base channels
-unfoldable pub head : ℕ → Syntax (McHeader × (ℕ × McStatus))
-head baseChannels = both mcHeader (λ h. both mcErrorCheck (λ word. mcCompositeStatusInfo (configOf h baseChannels)))
+-- what follows a header over one or two base channels
+abbrev pub afterHeader : McHeader → ℕ → Syntax (ℕ × McStatus)
+afterHeader h baseChannels = both mcErrorCheck (λ word. mcCompositeStatusInfo (configOf h baseChannels))
+
+-- the whole head; a centre code that has no meaning under the reading stops it after the header, refusal 13
+unfoldable pub head : ℕ → ℕ → Syntax (McHeader × (ℕ × McStatus))
+head reading baseChannels = both mcHeader (λ h. cond (centreStops reading (h .centre)) (refuse (plain 13)) (afterHeader h baseChannels))

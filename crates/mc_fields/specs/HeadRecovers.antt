@@ -10,6 +10,7 @@ use Rattle.bits.specs.Syntax.{Syntax}
 use Rattle.bits.specs.Unique.{Finds, Recovers, finds-done, finds-refuse, finds-field, finds-cond, finds-weaken, finds-bind, finds-times, finds-along, recovers-both, flag-value}
 use Rattle.bits.specs.TableFill.{Filling, fill-up, fill-set, recovers-loop}
 use Rattle.mc_config.specs.Config.{configOf, pairOf}
+use Rattle.mc_config.specs.Reading.{centreStops}
 use Rattle.mc_crosstalk.specs.Crosstalk.{predictorsOf}
 use Rattle.mc_crosstalk.specs.CrosstalkLaws.{predictors-most}
 use Rattle.mc_config.specs.declared.McConfig.{McConfig}
@@ -107,8 +108,9 @@ status-recovers c =
 
 -- ---- the whole head
 
-pub head-recovers : (baseChannels : ℕ) → Recovers (head baseChannels)
+pub head-recovers : (reading baseChannels : ℕ) → Recovers (head reading baseChannels)
 unfolding head mcErrorCheck
-head-recovers baseChannels =
+head-recovers reading baseChannels =
     recovers-both header-recovers
-    (λ h. recovers-both (finds-field (λ word. word) (λ word b. finds-done (tt, refl))) (λ word. status-recovers (configOf h baseChannels)))
+    (λ h. finds-cond (centreStops reading (h .centre)) (λ e. finds-refuse)
+    (λ e. recovers-both (finds-field (λ word. word) (λ word b. finds-done (tt, refl))) (λ word. status-recovers (configOf h baseChannels))))

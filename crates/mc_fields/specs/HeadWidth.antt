@@ -10,6 +10,7 @@ use Rattle.bits.specs.Syntax.{accepted, run}
 use Rattle.bits.specs.Width.{AtMost, most-done, most-refuse, most-le, most-field, most-cond, most-bind, most-both, most-times, used-most}
 use Rattle.mc_config.specs.CaseLaws.{cond-all}
 use Rattle.mc_config.specs.Config.{hasCentre, frontOf, crossBitsOf, pairOf, configOf}
+use Rattle.mc_config.specs.Reading.{centreStops}
 use Rattle.mc_config.specs.ConfigLaws.{tc-bits-config, cross-bits-most}
 use Rattle.mc_crosstalk.specs.Crosstalk.{predictorsOf}
 use Rattle.mc_crosstalk.specs.CrosstalkLaws.{predictors-most}
@@ -88,13 +89,14 @@ cross-second-most h baseChannels true = most (eqb (h .surround) 3)
         (cond-all (λ front. crossBitsOf (10 * front + 0) + 1 ≤ 4) (hasCentre (h .centre)) (lit≤ tt) (lit≤ tt))
     most false = omega (arith, cross-bits-most (10 * frontOf baseChannels (h .centre) + h .surround))
 
-pub head-most : (baseChannels : ℕ) → AtMost (head baseChannels) 232
+pub head-most : (reading baseChannels : ℕ) → AtMost (head reading baseChannels) 232
 unfolding head mcErrorCheck
-head-most baseChannels =
+head-most reading baseChannels =
     most-both 208 (lit≤ tt) header-most
-    (λ h. most-both {w = 16} 192 (lit≤ tt) (most-field 0 (lit≤ tt) (λ word b. most-done))
-    (λ word. status-most (configOf h baseChannels) (tc-bits-config h baseChannels) (cross-second-most h baseChannels)))
+    (λ h. most-cond (centreStops reading (h .centre)) most-refuse
+    (most-both {w = 16} 192 (lit≤ tt) (most-field 0 (lit≤ tt) (λ word b. most-done))
+    (λ word. status-most (configOf h baseChannels) (tc-bits-config h baseChannels) (cross-second-most h baseChannels))))
 
-pub head-used : (baseChannels : ℕ) (bytes : List ℕ) (bits : ℕ) (r : McHeader × (ℕ × McStatus)) (used : ℕ)
-    → run (head baseChannels) bytes bits 0 ≡ accepted r used → used ≤ 232
-head-used baseChannels bytes bits r used e = omega (arith, used-most bytes bits 0 r used e (head-most baseChannels))
+pub head-used : (reading baseChannels : ℕ) (bytes : List ℕ) (bits : ℕ) (r : McHeader × (ℕ × McStatus)) (used : ℕ)
+    → run (head reading baseChannels) bytes bits 0 ≡ accepted r used → used ≤ 232
+head-used reading baseChannels bytes bits r used e = omega (arith, used-most bytes bits 0 r used e (head-most reading baseChannels))

@@ -1,8 +1,8 @@
 -- What every accepted head yields, and what a head is refused as.
-use mathlib.Core.Path.{_≡_}
+use mathlib.Core.Path.{_≡_, refl}
 use mathlib.Core.Bool.{Bool, true, false, _&&_}
 use mathlib.Core.List.{List}
-use mathlib.Core.Logic.{_⊎_}
+use mathlib.Core.Logic.{_⊎_, inl, inr}
 use Prim.Native.Nat.{ℕ, _+_, _*_, _/_, _%_, _^_, _≤_, _<_}
 use native.Mathlib.Nat.{lt-of-lt-of-le}
 use native.Mathlib.Omega.{arith}
@@ -10,10 +10,11 @@ use lib.Dec.{eqb}
 use lib.ListN.{length, getD}
 use lib.Pow.{pow-mono}
 use Rattle.bits.specs.Syntax.{Refusal, plain, accepted, refused, run}
-use Rattle.bits.specs.Yields.{Yields, yields-done, yields-field, yields-bind, yields-both, accepted-yields, refused-yields}
+use Rattle.bits.specs.Yields.{Yields, yields-done, yields-field, yields-refuse, yields-cond, yields-bind, yields-both, yields-weaken, accepted-yields, refused-yields}
 use Rattle.mc_config.specs.declared.McHeader.{McHeader}
 use Rattle.mc_config.specs.declared.McConfig.{McConfig}
 use Rattle.mc_config.specs.Config.{configOf, pairOf}
+use Rattle.mc_config.specs.Reading.{centreStops}
 use Rattle.mc_config.specs.ConfigLaws.{tc-bits-config, cross-bits-config}
 use Rattle.mc_crosstalk.specs.Crosstalk.{listed, predictorsOf}
 use Rattle.mc_crosstalk.specs.CrosstalkLaws.{predictors-most}
@@ -110,25 +111,33 @@ status-yields c =
 
 -- ---- the whole head
 
-head-yields : (baseChannels : ℕ) → Yields (head baseChannels) (λ r. HeaderFits (r .0) × ((r .1 .0 < 65536) × StatusFits (configOf (r .0) baseChannels) (r .1 .1))) Forbids
-unfolding head mcErrorCheck
-head-yields baseChannels = yields-both header-yields (λ h f. yields-both (yields-field (λ word b. yields-done b)) (λ word b. status-yields (configOf h baseChannels)))
+-- the refusals that a head states: a centre code, and its lowest forbidden code
+abbrev pub Stops : Refusal → Type 0
+Stops x = (x ≡ plain 13) ⊎ Forbids x
 
-module _ (baseChannels : ℕ) (bytes : List ℕ) (bits p : ℕ) where
-  -- a head is refused as short, or for its lowest forbidden code
-  pub head-refused : (x : Refusal) → run (head baseChannels) bytes bits p ≡ refused x → (x ≡ plain 1) ⊎ Forbids x
-  head-refused x e = refused-yields (head-yields baseChannels) bytes bits p x e
+head-yields : (reading baseChannels : ℕ)
+    → Yields (head reading baseChannels) (λ r. HeaderFits (r .0) × ((r .1 .0 < 65536) × StatusFits (configOf (r .0) baseChannels) (r .1 .1))) Stops
+unfolding head mcErrorCheck
+head-yields reading baseChannels =
+    yields-both header-yields
+    (λ h f. yields-cond (centreStops reading (h .centre)) (λ e. yields-refuse (inl refl))
+    (λ e. yields-both (yields-field (λ word b. yields-done b)) (λ word b. yields-weaken (status-yields (configOf h baseChannels)) (λ s p. p) (λ x p. inr p))))
+
+module _ (reading baseChannels : ℕ) (bytes : List ℕ) (bits p : ℕ) where
+  -- a head is refused as short, for its centre code, or for its lowest forbidden code
+  pub head-refused : (x : Refusal) → run (head reading baseChannels) bytes bits p ≡ refused x → (x ≡ plain 1) ⊎ Stops x
+  head-refused x e = refused-yields (head-yields reading baseChannels) bytes bits p x e
 
   -- an accepted head
-  module _ (h : McHeader) (word : ℕ) (s : McStatus) (used : ℕ) (e : run (head baseChannels) bytes bits p ≡ accepted (h, (word, s)) used) where
+  module _ (h : McHeader) (word : ℕ) (s : McStatus) (used : ℕ) (e : run (head reading baseChannels) bytes bits p ≡ accepted (h, (word, s)) used) where
     pub header-fits : HeaderFits h
-    header-fits = accepted-yields (head-yields baseChannels) bytes bits p (h, (word, s)) used e .0
+    header-fits = accepted-yields (head-yields reading baseChannels) bytes bits p (h, (word, s)) used e .0
 
     pub word-fits : word < 65536
-    word-fits = accepted-yields (head-yields baseChannels) bytes bits p (h, (word, s)) used e .1 .0
+    word-fits = accepted-yields (head-yields reading baseChannels) bytes bits p (h, (word, s)) used e .1 .0
 
     pub status-fits : StatusFits (configOf h baseChannels) s
-    status-fits = accepted-yields (head-yields baseChannels) bytes bits p (h, (word, s)) used e .1 .1
+    status-fits = accepted-yields (head-yields reading baseChannels) bytes bits p (h, (word, s)) used e .1 .1
 
     pub tc-below : (g : ℕ) → getD (s .«tc_allocation») g 0 < 8
     tc-below g = lt-of-lt-of-le (status-fits .tc-small g) (pow-mono (tc-bits-config h baseChannels))

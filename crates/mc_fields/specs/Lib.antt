@@ -6,6 +6,7 @@ pub mod StatusYields
 pub mod HeadYields
 pub mod HeadRecovers
 pub mod HeadWidth
+pub mod ReadingLaws
 pub mod LongestHead
 pub mod Lent
 pub mod LentLaws

@@ -8,12 +8,13 @@ use mc_pack::renewed;
 use mc_state::McDecodeState;
 
 #[no_mangle]
-pub extern "C" fn mc_decode_frame<'s, 'h, 'p, 'a, 'b, 'n, 'r, 'w, 'o, 'l>(
+pub extern "C" fn mc_decode_frame_reading<'s, 'h, 'p, 'a, 'b, 'n, 'r, 'w, 'o, 'l>(
     state: &'s mut McDecodeState,
     head: &'h [u8],
     head_bits: usize,
     payload: &'p [u8],
     payload_bits: usize,
+    reading: u32,
     rate: u32,
     base_channels: u8,
     raw_left: &'a [f64],
@@ -28,7 +29,7 @@ pub extern "C" fn mc_decode_frame<'s, 'h, 'p, 'a, 'b, 'n, 'r, 'w, 'o, 'l>(
     output: &'o mut [f64],
     lfe: &'l mut [f64],
 ) -> u64
-    ensures { λ r. ⌜ packedBy r (now (state .exit)) (buffersFrom (now (raw .exit)) (now (work .exit)) (now (output .exit)) (now (lfe .exit))) ≡ packedOf (frameOf (lentOf (now (head .entry)) «head_bits» (now (payload .entry)) «payload_bits» rate «base_channels» (baseFrom (now («raw_left» .entry)) (now («raw_right» .entry)) (now («scaled_left» .entry)) (now («scaled_right» .entry))) (now («base_nb_steps» .entry)) «lfe_allocation» (now («nb_steps» .entry))) (buffersFrom (now (raw .entry)) (now (work .entry)) (now (output .entry)) (now (lfe .entry))) (now (state .entry))) ⌝ }
+    ensures { λ r. ⌜ packedBy r (now (state .exit)) (buffersFrom (now (raw .exit)) (now (work .exit)) (now (output .exit)) (now (lfe .exit))) ≡ packedOf (frameOf (lentOf (now (head .entry)) «head_bits» (now (payload .entry)) «payload_bits» reading rate «base_channels» (baseFrom (now («raw_left» .entry)) (now («raw_right» .entry)) (now («scaled_left» .entry)) (now («scaled_right» .entry))) (now («base_nb_steps» .entry)) «lfe_allocation» (now («nb_steps» .entry))) (buffersFrom (now (raw .entry)) (now (work .entry)) (now (output .entry)) (now (lfe .entry))) (now (state .entry))) ⌝ }
 {
     let t = packed_frame(
         *state,
@@ -36,6 +37,7 @@ pub extern "C" fn mc_decode_frame<'s, 'h, 'p, 'a, 'b, 'n, 'r, 'w, 'o, 'l>(
         head_bits,
         payload,
         payload_bits,
+        reading,
         rate,
         base_channels,
         raw_left,

@@ -2,5 +2,5 @@
 
 mod export;
 
-pub use export::mc_decode_frame;
+pub use export::mc_decode_frame_reading;
 pub use export::mc_fresh_state;

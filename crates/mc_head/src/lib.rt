@@ -1,14 +1,19 @@
 // Reads a head string: mc_header(), the check word, and mc_composite_status_info() (ISO/IEC 13818-3, 2.5.1.13 to 2.5.1.15).
 ghost use mathlib.Core.Path.{_≡_};
+ghost use mathlib.Core.Logic.{_⊎_};
 ghost use Rattle.cursor.specs.Cursor.{runFrom};
-ghost use Rattle.bits.specs.Syntax.{run};
+ghost use Rattle.bits.specs.Syntax.{plain, run};
+ghost use Rattle.mc_error.specs.Error.{refusalOf};
 ghost use Rattle.mc_head.specs.Answer.{outcomeOf, valuesOf, noHead, valuesAfter};
 ghost use Rattle.mc_fields.specs.Head.{checkModes, head};
-ghost use Rattle.mc_fields.specs.Lent.{headOf};
+ghost use Rattle.mc_fields.specs.Lent.{headFits, headOf};
 use cursor::Cursor;
 use cursor::read;
+use cursor::refuse_if;
 use mc_config::McConfig;
 use mc_config::McHeader;
+use mc_config::centre_stops;
+use mc_config::reading_fits;
 use mc_error::McError;
 use mc_fields::McStatus;
 use mc_fields::base_fits;
@@ -74,10 +79,10 @@ struct FieldsRead {
     status: McStatus,
 }
 
-// Reads all of a head; what is left is the test of its codes.
-fn read_fields(bytes: &[u8], limit: usize, base_channels: u8) -> FieldsRead
+// Reads all of a head; what is left is the test of its crosstalk codes.
+fn read_fields(bytes: &[u8], limit: usize, reading: u32, base_channels: u8) -> FieldsRead
     ensures { λ r. ⌜
-        run (head «base_channels») (now (bytes .entry)) limit 0
+        run (head reading «base_channels») (now (bytes .entry)) limit 0
         ≡ runFrom (now (bytes .entry)) limit (r .cursor) (checkModes (r .pair) (r .status .«dyn_cross») (r .header, (r .«check_word», r .status)))
         ⌝ }
 {
@@ -88,7 +93,8 @@ fn read_fields(bytes: &[u8], limit: usize, base_channels: u8) -> FieldsRead
     };
     let first = read_mc_header(bytes, limit, start);
     let header = first.header;
-    let word = read(bytes, limit, first.cursor, 16);
+    let known = refuse_if(first.cursor, centre_stops(reading, header.centre), 13);
+    let word = read(bytes, limit, known, 16);
     let check_word = word.value as u16;
     let config = McConfig::from_header(header, base_channels);
     let last = read_status(bytes, limit, word, config);
@@ -103,21 +109,37 @@ fn read_fields(bytes: &[u8], limit: usize, base_channels: u8) -> FieldsRead
     }
 }
 
-// Reads the head in the first `bits` bits. A wrong loan is refused before any bit is read, and a forbidden code after the last.
-pub fn read_head(bytes: &[u8], bits: usize, base_channels: u8) -> McHead
-    ensures { λ r. ⌜ outcomeOf r ≡ headOf (now (bytes .entry)) bits «base_channels» ⌝ }
-    ensures { λ r. ⌜ valuesOf r ≡ valuesAfter (headOf (now (bytes .entry)) bits «base_channels») ⌝ }
+// The refusal of a number.
+fn error_of(number: u32) -> McError
+    requires { ⌜ (number ≡ 1) ⊎ (number ≡ 13) ⌝ }
+    ensures { λ r. ⌜ refusalOf r ≡ plain number ⌝ }
 {
-    if !string_fits(bytes, bits) {
+    match number {
+        13 => McError::UndefinedCentre,
+        _ => McError::UnexpectedEnd,
+    }
+}
+
+// A reading that there is, a string that fits, and one or two base channels.
+fn head_fits(bytes: &[u8], bits: usize, reading: u32, base_channels: u8) -> bool
+    ensures { λ r. ⌜ r ≡ headFits reading (now (bytes .entry)) bits «base_channels» ⌝ }
+{
+    reading_fits(reading) & (string_fits(bytes, bits) & base_fits(base_channels))
+}
+
+// Reads the head in the first `bits` bits. A wrong loan is refused before any bit is read, a centre code after the header, and a forbidden
+// crosstalk code after the last bit.
+pub fn read_head(bytes: &[u8], bits: usize, reading: u32, base_channels: u8) -> McHead
+    ensures { λ r. ⌜ outcomeOf r ≡ headOf reading (now (bytes .entry)) bits «base_channels» ⌝ }
+    ensures { λ r. ⌜ valuesOf r ≡ valuesAfter (headOf reading (now (bytes .entry)) bits «base_channels») ⌝ }
+{
+    if !head_fits(bytes, bits, reading, base_channels) {
         return McHead::refused(McError::InvalidArgument);
     }
-    if !base_fits(base_channels) {
-        return McHead::refused(McError::InvalidArgument);
-    }
-    let fields = read_fields(bytes, bits, base_channels);
+    let fields = read_fields(bytes, bits, reading, base_channels);
     let end = fields.cursor;
     if end.err != 0 {
-        return McHead::refused(McError::UnexpectedEnd);
+        return McHead::refused(error_of(end.err));
     }
     let status = fields.status;
     let dyn_cross = status.dyn_cross;

@@ -44,16 +44,20 @@ fn all_fit(steps: &[u32], n: usize) -> bool
     true
 }
 
-// Rate, base channel count, LFE allocation, the number of step counts, and base step counts.
+// Reading, rate, base channel count, LFE allocation, the number of step counts, and base step counts.
 pub fn loan_fits(
+    reading: u32,
     rate: u32,
     base_channels: u8,
     lfe_allocation: u8,
     nb_steps: &[u32],
     base_nb_steps: &[u32],
 ) -> bool
-    ensures { λ r. ⌜ r ≡ loanFits rate «base_channels» «lfe_allocation» (now («nb_steps» .entry)) (now («base_nb_steps» .entry)) ⌝ }
+    ensures { λ r. ⌜ r ≡ loanFits reading rate «base_channels» «lfe_allocation» (now («nb_steps» .entry)) (now («base_nb_steps» .entry)) ⌝ }
 {
+    if !mc_config::reading_fits(reading) {
+        return false;
+    }
     if !rate_fits(rate) {
         return false;
     }
@@ -102,6 +106,7 @@ fn table_64(list: &[u32]) -> [u32; 64]
 
 // The lists as tables of fixed length.
 pub fn settings(
+    reading: u32,
     rate: u32,
     base_channels: u8,
     header: McHeader,
@@ -110,11 +115,12 @@ pub fn settings(
     nb_steps: &[u32],
     base_nb_steps: &[u32],
 ) -> McSettings
-    ensures { λ r. ⌜ r ≡ settingsOf (loanBy rate «base_channels» header status «lfe_allocation» (now («nb_steps» .entry)) (now («base_nb_steps» .entry))) ⌝ }
+    ensures { λ r. ⌜ r ≡ settingsOf (loanBy reading rate «base_channels» header status «lfe_allocation» (now («nb_steps» .entry)) (now («base_nb_steps» .entry))) ⌝ }
 {
     let steps = table_96(nb_steps);
     let base_steps = table_64(base_nb_steps);
     McSettings {
+        reading,
         rate,
         base_channels,
         header,

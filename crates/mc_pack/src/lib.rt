@@ -36,6 +36,7 @@ pub fn packed_frame<'h, 'p, 'a, 'b, 'n, 'r, 'w, 'o, 'l>(
     head_bits: usize,
     payload: &'p [u8],
     payload_bits: usize,
+    reading: u32,
     rate: u32,
     base_channels: u8,
     raw_left: &'a [f64],
@@ -50,7 +51,7 @@ pub fn packed_frame<'h, 'p, 'a, 'b, 'n, 'r, 'w, 'o, 'l>(
     output: &'o mut [f64],
     lfe: &'l mut [f64],
 ) -> PackedFrame
-    ensures { λ r. ⌜ packedBy (r .answer) (r .state) (buffersFrom (now (raw .exit)) (now (work .exit)) (now (output .exit)) (now (lfe .exit))) ≡ packedOf (frameOf (lentOf (now (head .entry)) «head_bits» (now (payload .entry)) «payload_bits» rate «base_channels» (baseFrom (now («raw_left» .entry)) (now («raw_right» .entry)) (now («scaled_left» .entry)) (now («scaled_right» .entry))) (now («base_nb_steps» .entry)) «lfe_allocation» (now («nb_steps» .entry))) (buffersFrom (now (raw .entry)) (now (work .entry)) (now (output .entry)) (now (lfe .entry))) state) ⌝ }
+    ensures { λ r. ⌜ packedBy (r .answer) (r .state) (buffersFrom (now (raw .exit)) (now (work .exit)) (now (output .exit)) (now (lfe .exit))) ≡ packedOf (frameOf (lentOf (now (head .entry)) «head_bits» (now (payload .entry)) «payload_bits» reading rate «base_channels» (baseFrom (now («raw_left» .entry)) (now («raw_right» .entry)) (now («scaled_left» .entry)) (now («scaled_right» .entry))) (now («base_nb_steps» .entry)) «lfe_allocation» (now («nb_steps» .entry))) (buffersFrom (now (raw .entry)) (now (work .entry)) (now (output .entry)) (now (lfe .entry))) state) ⌝ }
 {
     let t = frame_by_value(
         state,
@@ -58,6 +59,7 @@ pub fn packed_frame<'h, 'p, 'a, 'b, 'n, 'r, 'w, 'o, 'l>(
         head_bits,
         payload,
         payload_bits,
+        reading,
         rate,
         base_channels,
         raw_left,

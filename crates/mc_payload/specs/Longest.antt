@@ -7,6 +7,7 @@ use lib.Dec.{eqb, ltb}
 use lib.ListN.{replicate}
 use Rattle.bits.specs.Syntax.{plain, accepted, refused}
 use Rattle.fill.specs.Tab.{tab}
+use Rattle.mc_config.specs.Reading.{readingFits}
 use Rattle.mc_config.specs.declared.McHeader.{McHeader}
 use Rattle.mc_fields.specs.declared.McStatus.{McStatus}
 use Rattle.mc_payload.specs.Payload.{Codes}
@@ -59,10 +60,11 @@ longestStatus =
       «mc_prediction» = tab (λ (k : ℕ). cond (eqb (k % 7) 0) 1 3) 56;
     }
 
--- 44,100 Hz, two base channels, 65,535 steps in 30 subbands of three channels
-unfoldable pub longestLoan : Loan
-longestLoan =
+-- 44,100 Hz, two base channels, 65,535 steps in 30 subbands of three channels; under any reading
+unfoldable pub longestLoan : ℕ → Loan
+longestLoan reading =
     record {
+      reading = reading;
       rate = 44100;
       baseChannels = 2;
       header = longestHeader;
@@ -72,10 +74,12 @@ longestLoan =
       baseSteps = replicate 64 0;
     }
 
--- some payload uses the most bits, and with one bit fewer it is short
+-- under either reading some payload uses the most bits, and with one bit fewer it is short
 abbrev pub Reached : Type 0
 Reached =
-    (b : List ℕ)
+    (reading : ℕ)
+    → readingFits reading ≡ true
+    → (b : List ℕ)
     × (c : Codes)
-    × (unpackOf longestLoan b longest ≡ accepted c longest)
-    × (unpackOf longestLoan b (longest - 1) ≡ refused (plain 1))
+    × (unpackOf (longestLoan reading) b longest ≡ accepted c longest)
+    × (unpackOf (longestLoan reading) b (longest - 1) ≡ refused (plain 1))

@@ -8,6 +8,7 @@ use Rattle.bits.specs.Syntax.{Syntax, Outcome, plain, refused, run}
 use Rattle.fill.specs.Each.{each}
 use Rattle.fill.specs.Tab.{tab}
 use Rattle.bitalloc.specs.Classes.{isClass}
+use Rattle.mc_config.specs.Reading.{readingFits}
 use Rattle.mc_config.specs.declared.McHeader.{McHeader}
 use Rattle.mc_fields.specs.declared.McStatus.{McStatus}
 use Rattle.mc_fields.specs.Lent.{stringFits, baseFits}
@@ -22,14 +23,15 @@ rateFits rate = eqb rate 48000 || (eqb rate 44100 || eqb rate 32000)
 abbrev pub stepsFit : ℕ → Bool
 stepsFit n = eqb n 0 || isClass n
 
--- rate, base channel count, LFE allocation, step counts' number, and base step counts are as document 01 says
-unfoldable pub loanFits : ℕ → ℕ → ℕ → List ℕ → List ℕ → Bool
-loanFits rate baseChannels lfe steps baseSteps =
-    rateFits rate
+-- reading, rate, base channel count, LFE allocation, step counts' number, and base step counts are as document 01 says
+unfoldable pub loanFits : ℕ → ℕ → ℕ → ℕ → List ℕ → List ℕ → Bool
+loanFits reading rate baseChannels lfe steps baseSteps =
+    readingFits reading
+    && (rateFits rate
     && (baseFits baseChannels
     && (leb lfe 15
     && (eqb (length steps) 96
-    && (eqb (length baseSteps) (32 * baseChannels) && each (λ k. stepsFit (getD baseSteps k 0)) (32 * baseChannels)))))
+    && (eqb (length baseSteps) (32 * baseChannels) && each (λ k. stepsFit (getD baseSteps k 0)) (32 * baseChannels))))))
 
 -- the transmitted step count of channel m in subband sb may stand: 0, or a class where it is transmitted
 abbrev pub allocationFits : McSettings → ℕ → Bool
@@ -48,6 +50,8 @@ payloadOf s = payload (s .header .«multi_lingual_layer3») (s .«lfe_allocation
 -- ---- what a payload is read under, as lent
 
 pub record Loan : Type 0 where
+  -- 1 or 2
+  pub reading : ℕ
   -- 48000, 44100 or 32000
   pub rate : ℕ
   -- 1 or 2
@@ -61,14 +65,15 @@ pub record Loan : Type 0 where
   -- base step counts: channel ch and subband at 32 ch + sb
   pub baseSteps : List ℕ
 
-abbrev pub loanBy : ℕ → ℕ → McHeader → McStatus → ℕ → List ℕ → List ℕ → Loan
-loanBy rate baseChannels header status lfe steps baseSteps =
-    record { rate = rate; baseChannels = baseChannels; header = header; status = status; lfe = lfe; steps = steps; baseSteps = baseSteps }
+abbrev pub loanBy : ℕ → ℕ → ℕ → McHeader → McStatus → ℕ → List ℕ → List ℕ → Loan
+loanBy reading rate baseChannels header status lfe steps baseSteps =
+    record { reading = reading; rate = rate; baseChannels = baseChannels; header = header; status = status; lfe = lfe; steps = steps; baseSteps = baseSteps }
 
 -- the lists as tables of fixed length, 0 past their ends
 unfoldable pub settingsOf : Loan → McSettings
 settingsOf l =
     record {
+      reading = l .reading;
       rate = l .rate;
       «base_channels» = l .baseChannels;
       header = l .header;
@@ -81,6 +86,6 @@ settingsOf l =
 unfoldable pub unpackOf : Loan → List ℕ → ℕ → Outcome Codes
 unpackOf l bytes bits =
     let s = settingsOf l in
-    cond (stringFits bytes bits && loanFits (l .rate) (l .baseChannels) (l .lfe) (l .steps) (l .baseSteps))
+    cond (stringFits bytes bits && loanFits (l .reading) (l .rate) (l .baseChannels) (l .lfe) (l .steps) (l .baseSteps))
     (cond (allocationsFit s) (run (payloadOf s) bytes bits 0) (refused (plain 8)))
     (refused (plain 6))

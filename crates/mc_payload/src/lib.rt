@@ -6,6 +6,8 @@ use mc_config::McHeader;
 use mc_fields::McStatus;
 
 pub struct McSettings {
+    // of the transfer guide, 1 or 2
+    pub reading: u32,
     pub rate: u32,
     pub base_channels: u8,
     pub header: McHeader,

@@ -11,13 +11,14 @@ use Rattle.mc_state.specs.declared.Framed.{Framed}
 use Rattle.mc_state.specs.declared.McDecodeState.{McDecodeState}
 use Rattle.mc_state.specs.Frame.{Lent, Buffers, After}
 
-abbrev pub lentOf : List ℕ → ℕ → List ℕ → ℕ → ℕ → ℕ → Base → List ℕ → ℕ → List ℕ → Lent
-lentOf head headBits payload payloadBits rate baseChannels base baseSteps lfe steps =
+abbrev pub lentOf : List ℕ → ℕ → List ℕ → ℕ → ℕ → ℕ → ℕ → Base → List ℕ → ℕ → List ℕ → Lent
+lentOf head headBits payload payloadBits reading rate baseChannels base baseSteps lfe steps =
     record {
       head = head;
       headBits = headBits;
       payload = payload;
       payloadBits = payloadBits;
+      reading = reading;
       rate = rate;
       baseChannels = baseChannels;
       base = base;

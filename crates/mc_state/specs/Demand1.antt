@@ -1,8 +1,11 @@
 -- Demand 1: what it says of a frame call that is refused, and of one that is accepted.
 pub mod Proof
 use mathlib.Core.Path.{_≡_}
+use mathlib.Core.Bool.{Bool, true, false, _||_}
+use mathlib.Core.List.{List, [], _∷_}
 use mathlib.Core.Logic.{_⊎_}
-use Prim.Native.Nat.{ℕ, _≤_}
+use Prim.Native.Nat.{ℕ}
+use lib.Dec.{eqb}
 use Rattle.bits.specs.Syntax.{Refusal, plain, accepted, refused}
 use Rattle.mc_config.specs.declared.McHeader.{McHeader}
 use Rattle.mc_fields.specs.declared.McStatus.{McStatus}
@@ -20,14 +23,21 @@ pub record Found (l : Lent) (s : McSettings) (c : Codes) (headUsed used : ℕ) :
   pub header : McHeader
   pub word : ℕ
   pub status : McStatus
-  pub head : headOf (l .head) (l .headBits) (l .baseChannels) ≡ accepted (header, (word, status)) headUsed
+  pub head : headOf (l .reading) (l .head) (l .headBits) (l .baseChannels) ≡ accepted (header, (word, status)) headUsed
   pub settings : s ≡ settingsFor l header status
   pub payload : settledOf s (l .payload) (l .payloadBits) ≡ accepted c used
 
--- a number from 1 to 8; a group and a code under 2 alone
-pub record Numbered (x : Refusal) : Type 0 where
-  pub least : 1 ≤ x .number
-  pub most : x .number ≤ 8
+unfoldable pub among : List ℕ → ℕ → Bool
+among [] n = false
+among (m ∷ more) n = eqb n m || among more n
+
+-- the numbers of the frame call's refusals
+abbrev pub frameNumbers : List ℕ
+frameNumbers = 1 ∷ 2 ∷ 3 ∷ 4 ∷ 5 ∷ 6 ∷ 7 ∷ 8 ∷ 13 ∷ []
+
+-- one of an entry's numbers; a group and a code under 2 alone
+pub record Numbered (numbers : List ℕ) (x : Refusal) : Type 0 where
+  pub number : among numbers (x .number) ≡ true
   pub bare : (x .number ≡ 2) ⊎ (x ≡ plain (x .number))
 
 -- the base's last nine slots are in the history, and nothing else has changed
@@ -43,7 +53,7 @@ pub record Stored (l : Lent) (st st′ : McDecodeState) : Type 0 where
 
 -- after refusal x the buffers are as they were, and so is the state, but that refusal 5 has stored the history
 pub record Left (x : Refusal) (l : Lent) (w : Buffers) (st : McDecodeState) (a : After) : Type 0 where
-  pub numbered : Numbered x
+  pub numbered : Numbered frameNumbers x
   pub buffers : a .buffers ≡ w
   pub state : (x ≡ plain 5 → ⊥) → a .state ≡ st
   pub stored : x ≡ plain 5 → Stored l st (a .state)

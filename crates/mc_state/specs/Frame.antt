@@ -27,6 +27,8 @@ pub record Lent : Type 0 where
   pub headBits : ℕ
   pub payload : List ℕ
   pub payloadBits : ℕ
+  -- of the transfer guide, 1 or 2
+  pub reading : ℕ
   pub rate : ℕ
   pub baseChannels : ℕ
   pub base : Base
@@ -62,7 +64,7 @@ unfoldable pub lentBy : Lent → ℕ → ℕ → ℕ → ℕ → ℕ → Bool
 lentBy l raw work output lfe layoutLen =
     stringFits (l .head) (l .headBits)
     && (stringFits (l .payload) (l .payloadBits)
-    && (loanFits (l .rate) (l .baseChannels) (l .lfe) (l .steps) (l .baseSteps)
+    && (loanFits (l .reading) (l .rate) (l .baseChannels) (l .lfe) (l .steps) (l .baseSteps)
     && (valuesLong (l .baseChannels) (length (l .base .rawLeft)) (length (l .base .rawRight)) (length (l .base .scaledLeft)) (length (l .base .scaledRight))
     && (roomFits raw work output lfe && leb layoutLen 5))))
 
@@ -95,7 +97,7 @@ pub data Verdict : Type 0 where
 
 -- what the payload is read under
 abbrev pub settingsFor : Lent → McHeader → McStatus → McSettings
-settingsFor l h status = settingsOf (loanBy (l .rate) (l .baseChannels) h status (l .lfe) (l .steps) (l .baseSteps))
+settingsFor l h status = settingsOf (loanBy (l .reading) (l .rate) (l .baseChannels) h status (l .lfe) (l .steps) (l .baseSteps))
 
 -- a layout of so many channels may follow on the state's: there is none yet, or it has as many
 abbrev pub follows : ℕ → ℕ → Bool
@@ -114,7 +116,7 @@ verdictHead l st (accepted (h, (word, status)) used) =
 unfoldable pub verdictOf : Lent → Buffers → McDecodeState → Verdict
 verdictOf l w st =
     cond (lentFits l w st)
-    (cond (valuesFit (l .base) (st .«pred_hist»)) (verdictHead l st (headOf (l .head) (l .headBits) (l .baseChannels))) (refusal (plain 7)))
+    (cond (valuesFit (l .base) (st .«pred_hist»)) (verdictHead l st (headOf (l .reading) (l .head) (l .headBits) (l .baseChannels))) (refusal (plain 7)))
     (refusal (plain 6))
 
 -- ---- what it leaves

@@ -36,7 +36,7 @@ module _ (l : Loan) (bytes : List ℕ) (bits raw lfe : ℕ) (p : McPayload) wher
       unfolding checkedOf unpackOf
       decided-string t z = wrong z (rw (eq-eqb raw 3456 hr, eq-eqb lfe 12 hl, ← ea, not-true a t))
 
-      module _ (ta : not a ≡ false) (b : Bool) (eb : b ≡ loanFits (l .rate) (l .baseChannels) (l .lfe) (l .steps) (l .baseSteps)) where
+      module _ (ta : not a ≡ false) (b : Bool) (eb : b ≡ loanFits (l .reading) (l .rate) (l .baseChannels) (l .lfe) (l .steps) (l .baseSteps)) where
         pub decided-loan : not b ≡ true → p .codes .cursor .err ≡ 6 → Decided l bytes bits raw lfe p
         unfolding checkedOf unpackOf
         decided-loan t z = wrong z (rw (eq-eqb raw 3456 hr, eq-eqb lfe 12 hl, ← ea, not-false a ta, ← eb, not-true b t))

@@ -68,7 +68,7 @@ settled-numbered s bytes bits n = go (allocationsFit s)
 
 pub unpack-numbered : (l : Loan) (bytes : List ℕ) (bits n : ℕ) → unpackOf l bytes bits ≡ refused (plain n) → Numbered n
 unfolding unpackOf settledOf
-unpack-numbered l bytes bits n = go (stringFits bytes bits && loanFits (l .rate) (l .baseChannels) (l .lfe) (l .steps) (l .baseSteps))
+unpack-numbered l bytes bits n = go (stringFits bytes bits && loanFits (l .reading) (l .rate) (l .baseChannels) (l .lfe) (l .steps) (l .baseSteps))
   where
     go : (t : Bool) → cond t (settledOf (settingsOf l) bytes bits) (refused (plain 6)) ≡ refused (plain n) → Numbered n
     go true e = settled-numbered (settingsOf l) bytes bits n e

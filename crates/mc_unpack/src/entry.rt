@@ -136,6 +136,7 @@ pub fn read_mc_payload(bytes: &[u8], bits: usize, s: McSettings) -> McPayload
 fn decide(
     bytes: &[u8],
     bits: usize,
+    reading: u32,
     rate: u32,
     base_channels: u8,
     header: McHeader,
@@ -146,7 +147,7 @@ fn decide(
     raw_len: usize,
     lfe_len: usize,
 ) -> McPayload
-    ensures { λ r. ⌜ Decided (loanBy rate «base_channels» header status «lfe_allocation» (now («nb_steps» .entry)) (now («base_nb_steps» .entry))) (now (bytes .entry)) bits «raw_len» «lfe_len» r ⌝ }
+    ensures { λ r. ⌜ Decided (loanBy reading rate «base_channels» header status «lfe_allocation» (now («nb_steps» .entry)) (now («base_nb_steps» .entry))) (now (bytes .entry)) bits «raw_len» «lfe_len» r ⌝ }
 {
     if raw_len != 3456 {
         return McPayload::refused(6);
@@ -157,10 +158,18 @@ fn decide(
     if !mc_fields::string_fits(bytes, bits) {
         return McPayload::refused(6);
     }
-    if !loan_fits(rate, base_channels, lfe_allocation, nb_steps, base_nb_steps) {
+    if !loan_fits(
+        reading,
+        rate,
+        base_channels,
+        lfe_allocation,
+        nb_steps,
+        base_nb_steps,
+    ) {
         return McPayload::refused(6);
     }
     let s = settings(
+        reading,
         rate,
         base_channels,
         header,
@@ -190,6 +199,7 @@ pub fn error_of(number: u32) -> McError
 pub fn unpack(
     bytes: &[u8],
     bits: usize,
+    reading: u32,
     rate: u32,
     base_channels: u8,
     header: McHeader,
@@ -200,11 +210,12 @@ pub fn unpack(
     raw: &mut [f64],
     lfe: &mut [f64],
 ) -> Unpacked
-    ensures { λ r. ⌜ afterOf r (now (raw .exit)) (now (lfe .exit)) ≡ unpackCall (loanBy rate «base_channels» header status «lfe_allocation» (now («nb_steps» .entry)) (now («base_nb_steps» .entry))) (now (bytes .entry)) bits (now (raw .entry)) (now (lfe .entry)) ⌝ }
+    ensures { λ r. ⌜ afterOf r (now (raw .exit)) (now (lfe .exit)) ≡ unpackCall (loanBy reading rate «base_channels» header status «lfe_allocation» (now («nb_steps» .entry)) (now («base_nb_steps» .entry))) (now (bytes .entry)) bits (now (raw .entry)) (now (lfe .entry)) ⌝ }
 {
     let payload = decide(
         bytes,
         bits,
+        reading,
         rate,
         base_channels,
         header,

@@ -51,8 +51,8 @@ abbrev pub Head : Type 0
 Head = Outcome (McHeader × (ℕ × McStatus))
 
 -- room for other than 110 bytes is a wrong loan, refusal 6
-unfoldable pub headFor : List ℕ → ℕ → ℕ → ℕ → Head
-headFor bytes bits baseChannels room = cond (eqb room 110) (headOf bytes bits baseChannels) (refused (plain 6))
+unfoldable pub headFor : ℕ → List ℕ → ℕ → ℕ → ℕ → Head
+headFor reading bytes bits baseChannels room = cond (eqb room 110) (headOf reading bytes bits baseChannels) (refused (plain 6))
 
 -- the low 8 bits are the refusal's number, the next 24 the group, the rest the code
 abbrev pub packedRefusal : Refusal → ℕ

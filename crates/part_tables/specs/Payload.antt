@@ -20,19 +20,22 @@ pub record Lent : Type 0 where
   pub headBits : ℕ
   pub payload : List ℕ
   pub payloadBits : ℕ
+  -- of the transfer guide, 1 or 2
+  pub reading : ℕ
   pub rate : ℕ
   pub baseChannels : ℕ
   pub lfe : ℕ
   pub steps : List ℕ
   pub baseSteps : List ℕ
 
-abbrev pub lentOf : List ℕ → ℕ → List ℕ → ℕ → ℕ → ℕ → ℕ → List ℕ → List ℕ → Lent
-lentOf head headBits payload payloadBits rate baseChannels lfe steps baseSteps =
+abbrev pub lentOf : List ℕ → ℕ → List ℕ → ℕ → ℕ → ℕ → ℕ → ℕ → List ℕ → List ℕ → Lent
+lentOf head headBits payload payloadBits reading rate baseChannels lfe steps baseSteps =
     record {
       head = head;
       headBits = headBits;
       payload = payload;
       payloadBits = payloadBits;
+      reading = reading;
       rate = rate;
       baseChannels = baseChannels;
       lfe = lfe;
@@ -77,7 +80,7 @@ unfoldable pub lentBy : Lent → ℕ → ℕ → ℕ → ℕ → ℕ → ℕ →
 lentBy l scfsi delays coefs scalefactors raw lfe =
     stringFits (l .head) (l .headBits)
     && (stringFits (l .payload) (l .payloadBits)
-    && (loanFits (l .rate) (l .baseChannels) (l .lfe) (l .steps) (l .baseSteps)
+    && (loanFits (l .reading) (l .rate) (l .baseChannels) (l .lfe) (l .steps) (l .baseSteps)
     && roomFits scfsi delays coefs scalefactors raw lfe))
 
 -- else wrong loan, refusal 6
@@ -114,10 +117,10 @@ leftBy s w (refused x) = afterBy (packedRefusal x) w
 
 unfoldable pub underHead : Lent → Buffers → Head → After
 underHead l w (accepted (h, (word, status)) used) =
-    let loan = loanBy (l .rate) (l .baseChannels) h status (l .lfe) (l .steps) (l .baseSteps) in
+    let loan = loanBy (l .reading) (l .rate) (l .baseChannels) h status (l .lfe) (l .steps) (l .baseSteps) in
     leftBy (settingsOf loan) w (unpackOf loan (l .payload) (l .payloadBits))
 underHead l w (refused x) = afterBy (packedRefusal x) w
 
 unfoldable pub partOf : Lent → Buffers → After
 partOf l w =
-    cond (lentFits l w) (underHead l w (headOf (l .head) (l .headBits) (l .baseChannels))) (afterBy (packedRefusal (plain 6)) w)
+    cond (lentFits l w) (underHead l w (headOf (l .reading) (l .head) (l .headBits) (l .baseChannels))) (afterBy (packedRefusal (plain 6)) w)

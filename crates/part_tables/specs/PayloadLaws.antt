@@ -99,7 +99,7 @@ module _ (l : Lent) (w : Buffers) (a : Bool) (ea : a ≡ lentFits l w) where
     long =
         let b = both-true (stringFits (l .head) (l .headBits)) _ fits in
         let c = both-true (stringFits (l .payload) (l .payloadBits)) _ (b .1) in
-        let d = both-true (loanFits (l .rate) (l .baseChannels) (l .lfe) (l .steps) (l .baseSteps)) _ (c .1) in
+        let d = both-true (loanFits (l .reading) (l .rate) (l .baseChannels) (l .lfe) (l .steps) (l .baseSteps)) _ (c .1) in
         let e = both-true (eqb (length (w .scfsi)) 96) _ (d .1) in
         let f = both-true (eqb (length (w .delays)) 48) _ (e .1) in
         let g = both-true (eqb (length (w .coefs)) 144) _ (f .1) in
@@ -107,13 +107,13 @@ module _ (l : Lent) (w : Buffers) (a : Bool) (ea : a ≡ lentFits l w) where
         let k = both-true (eqb (length (w .raw)) 3456) _ (h .1) in
         (eqb-true _ 96 (e .0), eqb-true _ 48 (f .0), eqb-true _ 144 (g .0), eqb-true _ 288 (h .0), eqb-true _ 3456 (k .0), eqb-true _ 12 (k .1))
 
-    module _ (h : McHead) (eh : Answer.outcomeOf h ≡ headOf (l .head) (l .headBits) (l .baseChannels)) where
+    module _ (h : McHead) (eh : Answer.outcomeOf h ≡ headOf (l .reading) (l .head) (l .headBits) (l .baseChannels)) where
       pub after-head : (e : McError) → h .answer ≡ HeadRefused e → (n : ℕ) → n ≡ packedRefusal (refusalOf e) → afterBy n w ≡ partOf l w
       unfolding partOf underHead
       after-head e q n en = rw (← ea, not-false a ta, ← eh, q, en)
 
       pub after-payload : (used : ℕ) → h .answer ≡ HeadAccepted used → (r : After)
-          → r ≡ leftBy (settingsOf (loanBy (l .rate) (l .baseChannels) (h .header) (h .status) (l .lfe) (l .steps) (l .baseSteps))) w (unpackOf (loanBy (l .rate) (l .baseChannels) (h .header) (h .status) (l .lfe) (l .steps) (l .baseSteps)) (l .payload) (l .payloadBits))
+          → r ≡ leftBy (settingsOf (loanBy (l .reading) (l .rate) (l .baseChannels) (h .header) (h .status) (l .lfe) (l .steps) (l .baseSteps))) w (unpackOf (loanBy (l .reading) (l .rate) (l .baseChannels) (h .header) (h .status) (l .lfe) (l .steps) (l .baseSteps)) (l .payload) (l .payloadBits))
           → r ≡ partOf l w
       unfolding partOf underHead
       after-payload used q r e = e ∙ rw (← ea, not-false a ta, ← eh, q)

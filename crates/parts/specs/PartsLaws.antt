@@ -64,20 +64,20 @@ module _ (r : McHead) where
   pub writes-refused : (x : McError) (old : List ℕ) → r .answer ≡ Refused x → old ≡ bytesAfter (outcomeOf r) old
   writes-refused x old q = rw q
 
-module _ (bytes : List ℕ) (bits base room : ℕ) where
-  head-roomy : room ≡ 110 → headFor bytes bits base room ≡ headOf bytes bits base
+module _ (reading : ℕ) (bytes : List ℕ) (bits base room : ℕ) where
+  head-roomy : room ≡ 110 → headFor reading bytes bits base room ≡ headOf reading bytes bits base
   unfolding headFor
   head-roomy h = simp (eq-eqb _ _ h)
 
-  head-wrong : (room ≡ 110 → ⊥) → headFor bytes bits base room ≡ refused (plain 6)
+  head-wrong : (room ≡ 110 → ⊥) → headFor reading bytes bits base room ≡ refused (plain 6)
   unfolding headFor
   head-wrong h = simp (ne-eqb _ _ h)
 
   -- room for other than 110 bytes
-  pub wrong-room : (room ≡ 110 → ⊥) → (old : List ℕ) → (6 ≡ packedHead (headFor bytes bits base room)) × (old ≡ bytesAfter (headFor bytes bits base room) old)
+  pub wrong-room : (room ≡ 110 → ⊥) → (old : List ℕ) → (6 ≡ packedHead (headFor reading bytes bits base room)) × (old ≡ bytesAfter (headFor reading bytes bits base room) old)
   wrong-room h old = let e = head-wrong h in (rw e, rw e)
 
   -- room for 110 bytes
-  pub right-room : room ≡ 110 → (r : McHead) → outcomeOf r ≡ headOf bytes bits base → (n : ℕ) → n ≡ packedHead (outcomeOf r) → (old out : List ℕ) → out ≡ bytesAfter (outcomeOf r) old
-      → (n ≡ packedHead (headFor bytes bits base room)) × (out ≡ bytesAfter (headFor bytes bits base room) old)
+  pub right-room : room ≡ 110 → (r : McHead) → outcomeOf r ≡ headOf reading bytes bits base → (n : ℕ) → n ≡ packedHead (outcomeOf r) → (old out : List ℕ) → out ≡ bytesAfter (outcomeOf r) old
+      → (n ≡ packedHead (headFor reading bytes bits base room)) × (out ≡ bytesAfter (headFor reading bytes bits base room) old)
   right-room h r e n en old out eo = let q = e ∙ sym (head-roomy h) in (en ∙ ap packedHead q, eo ∙ ap (λ (o : Head). bytesAfter o old) q)

@@ -113,13 +113,19 @@ fn pack(head: McHead) -> u64
 
 // Reads the head in the first `bits` bits and writes its fields.
 #[no_mangle]
-pub extern "C" fn mc_part_head(bytes: &[u8], bits: usize, base_channels: u8, out: &mut [u8]) -> u64
-    ensures { λ r. ⌜ (r ≡ packedHead (headFor (now (bytes .entry)) bits «base_channels» (length (now (out .entry))))) × (now (out .exit) ≡ bytesAfter (headFor (now (bytes .entry)) bits «base_channels» (length (now (out .entry)))) (now (out .entry))) ⌝ }
+pub extern "C" fn mc_part_head(
+    bytes: &[u8],
+    bits: usize,
+    reading: u32,
+    base_channels: u8,
+    out: &mut [u8],
+) -> u64
+    ensures { λ r. ⌜ (r ≡ packedHead (headFor reading (now (bytes .entry)) bits «base_channels» (length (now (out .entry))))) × (now (out .exit) ≡ bytesAfter (headFor reading (now (bytes .entry)) bits «base_channels» (length (now (out .entry)))) (now (out .entry))) ⌝ }
 {
     if out.len() != HEAD_BYTES {
         return 6;
     }
-    let head = read_head(bytes, bits, base_channels);
+    let head = read_head(bytes, bits, reading, base_channels);
     write_head(head, out);
     pack(head)
 }

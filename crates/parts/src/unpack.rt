@@ -36,6 +36,7 @@ fn lent_fits(
     head_bits: usize,
     payload: &[u8],
     payload_bits: usize,
+    reading: u32,
     rate: u32,
     base_channels: u8,
     lfe_allocation: u8,
@@ -48,11 +49,18 @@ fn lent_fits(
     raw: usize,
     lfe: usize,
 ) -> bool
-    ensures { λ r. ⌜ r ≡ lentBy (lentOf (now (head .entry)) «head_bits» (now (payload .entry)) «payload_bits» rate «base_channels» «lfe_allocation» (now («nb_steps» .entry)) (now («base_nb_steps» .entry))) scfsi delays coefs scalefactors raw lfe ⌝ }
+    ensures { λ r. ⌜ r ≡ lentBy (lentOf (now (head .entry)) «head_bits» (now (payload .entry)) «payload_bits» reading rate «base_channels» «lfe_allocation» (now («nb_steps» .entry)) (now («base_nb_steps» .entry))) scfsi delays coefs scalefactors raw lfe ⌝ }
 {
     let heads = string_fits(head, head_bits);
     let payloads = string_fits(payload, payload_bits);
-    let loan = loan_fits(rate, base_channels, lfe_allocation, nb_steps, base_nb_steps);
+    let loan = loan_fits(
+        reading,
+        rate,
+        base_channels,
+        lfe_allocation,
+        nb_steps,
+        base_nb_steps,
+    );
     let room = room_fits(scfsi, delays, coefs, scalefactors, raw, lfe);
     heads & (payloads & (loan & room))
 }
@@ -63,6 +71,7 @@ fn unpack_under(
     status: McStatus,
     payload: &[u8],
     payload_bits: usize,
+    reading: u32,
     rate: u32,
     base_channels: u8,
     lfe_allocation: u8,
@@ -76,12 +85,13 @@ fn unpack_under(
     lfe: &mut [f64],
 ) -> u64
     requires { ⌜ (length (now scfsi) ≡ 96) × (length (now delays) ≡ 48) × (length (now coefs) ≡ 144) × (length (now scalefactors) ≡ 288) × (length (now raw) ≡ 3456) × (length (now lfe) ≡ 12) ⌝ }
-    ensures { λ r. ⌜ afterBy r (buffersFrom (now (scfsi .exit)) (now (delays .exit)) (now (coefs .exit)) (now (scalefactors .exit)) (now (raw .exit)) (now (lfe .exit))) ≡ leftBy (settingsOf (loanBy rate «base_channels» header status «lfe_allocation» (now («nb_steps» .entry)) (now («base_nb_steps» .entry)))) (buffersFrom (now (scfsi .entry)) (now (delays .entry)) (now (coefs .entry)) (now (scalefactors .entry)) (now (raw .entry)) (now (lfe .entry))) (unpackOf (loanBy rate «base_channels» header status «lfe_allocation» (now («nb_steps» .entry)) (now («base_nb_steps» .entry))) (now (payload .entry)) «payload_bits») ⌝ }
+    ensures { λ r. ⌜ afterBy r (buffersFrom (now (scfsi .exit)) (now (delays .exit)) (now (coefs .exit)) (now (scalefactors .exit)) (now (raw .exit)) (now (lfe .exit))) ≡ leftBy (settingsOf (loanBy reading rate «base_channels» header status «lfe_allocation» (now («nb_steps» .entry)) (now («base_nb_steps» .entry)))) (buffersFrom (now (scfsi .entry)) (now (delays .entry)) (now (coefs .entry)) (now (scalefactors .entry)) (now (raw .entry)) (now (lfe .entry))) (unpackOf (loanBy reading rate «base_channels» header status «lfe_allocation» (now («nb_steps» .entry)) (now («base_nb_steps» .entry))) (now (payload .entry)) «payload_bits») ⌝ }
 {
     let predsi = status.mc_prediction;
     let u = unpack(
         payload,
         payload_bits,
+        reading,
         rate,
         base_channels,
         header,
@@ -103,6 +113,7 @@ pub extern "C" fn mc_part_unpack(
     head_bits: usize,
     payload: &[u8],
     payload_bits: usize,
+    reading: u32,
     rate: u32,
     base_channels: u8,
     lfe_allocation: u8,
@@ -115,13 +126,14 @@ pub extern "C" fn mc_part_unpack(
     raw: &mut [f64],
     lfe: &mut [f64],
 ) -> u64
-    ensures { λ r. ⌜ afterBy r (buffersFrom (now (scfsi .exit)) (now (delays .exit)) (now (coefs .exit)) (now (scalefactors .exit)) (now (raw .exit)) (now (lfe .exit))) ≡ partOf (lentOf (now (head .entry)) «head_bits» (now (payload .entry)) «payload_bits» rate «base_channels» «lfe_allocation» (now («nb_steps» .entry)) (now («base_nb_steps» .entry))) (buffersFrom (now (scfsi .entry)) (now (delays .entry)) (now (coefs .entry)) (now (scalefactors .entry)) (now (raw .entry)) (now (lfe .entry))) ⌝ }
+    ensures { λ r. ⌜ afterBy r (buffersFrom (now (scfsi .exit)) (now (delays .exit)) (now (coefs .exit)) (now (scalefactors .exit)) (now (raw .exit)) (now (lfe .exit))) ≡ partOf (lentOf (now (head .entry)) «head_bits» (now (payload .entry)) «payload_bits» reading rate «base_channels» «lfe_allocation» (now («nb_steps» .entry)) (now («base_nb_steps» .entry))) (buffersFrom (now (scfsi .entry)) (now (delays .entry)) (now (coefs .entry)) (now (scalefactors .entry)) (now (raw .entry)) (now (lfe .entry))) ⌝ }
 {
     if !lent_fits(
         head,
         head_bits,
         payload,
         payload_bits,
+        reading,
         rate,
         base_channels,
         lfe_allocation,
@@ -136,7 +148,7 @@ pub extern "C" fn mc_part_unpack(
     ) {
         return pack_refusal(McError::InvalidArgument);
     }
-    let first = read_head(head, head_bits, base_channels);
+    let first = read_head(head, head_bits, reading, base_channels);
     let answer = first.answer;
     match answer {
         HeadAnswer::Refused(e) => pack_refusal(e),
@@ -148,6 +160,7 @@ pub extern "C" fn mc_part_unpack(
                 status,
                 payload,
                 payload_bits,
+                reading,
                 rate,
                 base_channels,
                 lfe_allocation,

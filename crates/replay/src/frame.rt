@@ -17,6 +17,9 @@ use replay_list::number32_at;
 use replay_list::second_lent;
 use replay_list::start;
 
+// The list is of frames under reading 1.
+const READING: u32 = 1;
+
 // Rebuilds the base values and the step counts in the slices that are lent for them.
 fn rebuild<'a, 'b, 'c, 'd, 'e, 'f>(
     opening: &[u8],
@@ -74,6 +77,7 @@ fn call<'a>(
         head_bits,
         payload,
         payload_bits,
+        READING,
         rate,
         base_channels,
         raw_left,

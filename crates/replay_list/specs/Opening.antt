@@ -48,10 +48,14 @@ startOf opening state =
     }
     state
 
+-- the list is of frames under reading 1
+abbrev pub listReading : ℕ
+listReading = 1
+
 -- what the frame call is lent, with the strings, the base and the step counts
 abbrev pub lentWith : List ℕ → List ℕ → List ℕ → Base → List ℕ → List ℕ → Lent
 lentWith opening head payload base baseSteps steps =
-    lentOf head (numberAt opening 4 4) payload (numberAt opening 8 4) (number32At opening 12) (getD opening 16 0) base baseSteps (getD opening 18 0) steps
+    lentOf head (numberAt opening 4 4) payload (numberAt opening 8 4) listReading (number32At opening 12) (getD opening 16 0) base baseSteps (getD opening 18 0) steps
 
 -- the same, with so many values and step counts in each slice: raw left, raw right, scaled left and scaled right are drawn in this order
 abbrev pub lentLong : List ℕ → List ℕ → List ℕ → ℕ → ℕ → ℕ → ℕ → ℕ → ℕ → Lent

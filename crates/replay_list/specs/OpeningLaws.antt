@@ -13,7 +13,7 @@ use Rattle.mc_state.specs.declared.Framed.{Framed}
 use Rattle.mc_state.specs.declared.McDecodeState.{McDecodeState}
 use Rattle.mc_state.specs.Answer.{lentOf, afterOf}
 use Rattle.mc_state.specs.Frame.{Buffers, frameOf}
-use Rattle.replay_list.specs.Opening.{number32At, secondLent, stepCounts, stepsOf, stepsFrom, lentValues, startOf, lentWith, lentLong, lentIn}
+use Rattle.replay_list.specs.Opening.{number32At, secondLent, stepCounts, stepsOf, stepsFrom, lentValues, startOf, listReading, lentWith, lentLong, lentIn}
 use Rattle.replay_list.specs.Values.{valuesAfter, withWild}
 
 -- within a list the value past the end is no matter
@@ -67,7 +67,7 @@ module _ (opening head payload : List ℕ) (r : Framed) (before after : Buffers)
   -- the frame call with the numbers that were read
   pub called : (headBits payloadBits rate channels lfe : ℕ) (start : McDecodeState) (base : Base) (baseSteps steps : List ℕ)
       → start ≡ startOf opening state → headBits ≡ numberAt opening 4 4 → payloadBits ≡ numberAt opening 8 4 → rate ≡ number32At opening 12 → channels ≡ getD opening 16 0 → lfe ≡ getD opening 18 0
-      → afterOf r after ≡ frameOf (lentOf head headBits payload payloadBits rate channels base baseSteps lfe steps) before start
+      → afterOf r after ≡ frameOf (lentOf head headBits payload payloadBits listReading rate channels base baseSteps lfe steps) before start
       → afterOf r after ≡ frameOf (lentWith opening head payload base baseSteps steps) before (startOf opening state)
   called headBits payloadBits rate channels lfe start base baseSteps steps e a b c d f q = q ∙ (rw (e, a, b, c, d, f))
 

@@ -12,8 +12,8 @@ use std::time::Duration;
 const NOTES: &str = "\
 Microseconds of processor time a frame: median (least to greatest) of the rounds; ratio: library / Rust
 of each round. Both sides read the same frames in turn, in one thread, each on one state of its own.
-Library: the frame call through the crate `koftabasin`, refusals 6, 7 and 8 included. Its buffers are
-lent once and never cleared in between; the call writes every element of them.
+Library: the frame call through the crate `koftabasin`, under reading 1, refusals 6, 7 and 8 included.
+Its buffers are lent once and never cleared in between; the call writes every element of them.
 Rust: `reference_span`, the published span with nothing added, which allocates zeroed vectors for each
 frame; freeing them is counted. It does not check for refusals 6, 7 and 8.
 ";

@@ -1,10 +1,12 @@
 //! Compares the proved head reading with the published Rust: heads of every shape, whole and cut at
-//! every bit, in every field. Ends with status 1 at the first difference.
+//! every bit, in every field, under readings drawn at random. Ends with status 1 at the first
+//! difference.
 
 use oracle::flat::packed;
-use oracle::generator::damage::{Part, cut, pad};
+use oracle::generator::damage::{Part, WRONG_READINGS, cut, pad};
 use oracle::generator::{HeadShape, Plan, Random};
-use oracle::scope::Refusal;
+use oracle::input::READINGS;
+use oracle::scope::{Refusal, undefined_centre};
 use oracle::{FrameInput, HeadOutput, reference_head};
 use std::process::ExitCode;
 
@@ -22,6 +24,7 @@ mod proved {
             bytes: *const u8,
             len: usize,
             bits: usize,
+            reading: u32,
             base_channels: u8,
             out: *mut u8,
             out_len: usize,
@@ -29,10 +32,11 @@ mod proved {
     }
 }
 
-/// A head that is lent: bytes, bit count, base channels, and room for the fields.
+/// A head that is lent: bytes, bit count, reading, base channels, and room for the fields.
 struct Lent<'a> {
     bytes: &'a [u8],
     bits: u64,
+    reading: u32,
     base_channels: u8,
     room: usize,
 }
@@ -47,6 +51,7 @@ fn found(lent: &Lent) -> Answer {
             lent.bytes.as_ptr(),
             lent.bytes.len(),
             lent.bits as usize,
+            lent.reading,
             lent.base_channels,
             out.as_mut_ptr(),
             out.len(),
@@ -58,8 +63,12 @@ fn found(lent: &Lent) -> Answer {
 fn wanted(lent: &Lent) -> Answer {
     let untouched = vec![UNTOUCHED; lent.room];
     let string = lent.bytes.len() <= 8192 && lent.bits <= 8 * lent.bytes.len() as u64;
-    if !string || !matches!(lent.base_channels, 1 | 2) || lent.room != FIELDS {
+    let numbers = READINGS.contains(&lent.reading) && matches!(lent.base_channels, 1 | 2);
+    if !string || !numbers || lent.room != FIELDS {
         return (6, untouched);
+    }
+    if undefined_centre(lent.reading, lent.bytes, lent.bits) {
+        return (13, untouched);
     }
     match reference_head(lent.bytes, lent.bits, lent.base_channels.into()) {
         Ok(head) => (head.used << 8, fields(&head)),
@@ -103,71 +112,94 @@ fn fields(head: &HeadOutput) -> Vec<u8> {
     bytes
 }
 
-/// Both sides say the same of a head.
-fn compare(lent: &Lent) -> Result<(), String> {
-    let (found, wanted) = (found(lent), wanted(lent));
-    match found == wanted {
-        true => Ok(()),
-        false => Err(format!(
-            "bytes {:02x?}, {} bits, {} base channels, room for {}\nfound  {:#x} {:?}\nwanted {:#x} {:?}",
-            &lent.bytes[..lent.bytes.len().min(40)],
-            lent.bits,
-            lent.base_channels,
-            lent.room,
-            found.0,
-            found.1,
-            wanted.0,
-            wanted.1
-        )),
-    }
+/// Both sides' answers to a head, in words.
+fn words(lent: &Lent, found: &Answer, wanted: &Answer) -> String {
+    format!(
+        "bytes {:02x?}, {} bits, reading {}, {} base channels, room for {}\n\
+         found  {:#x} {:?}\nwanted {:#x} {:?}",
+        &lent.bytes[..lent.bytes.len().min(40)],
+        lent.bits,
+        lent.reading,
+        lent.base_channels,
+        lent.room,
+        found.0,
+        found.1,
+        wanted.0,
+        wanted.1
+    )
 }
 
-/// A head of a shape, whole with bits after it, cut at every bit, and wrongly lent; the number of
-/// heads compared.
-fn shape(shape: &HeadShape, random: &mut Random) -> Result<u64, String> {
-    let mut plan = Plan::plain(shape.base_channels, shape.centre, shape.surround);
-    plan.head = shape.head(random);
-    let whole = plan.input();
-    for bits in 0..=whole.head_bits {
-        let mut input = whole.clone();
-        match bits == whole.head_bits {
-            true => pad(random, &mut input, Part::Head),
-            false => cut(&mut input, Part::Head, bits, random.flag()),
+/// Heads compared so far: under reading 1, under reading 2, under another number.
+#[derive(Default)]
+struct Heads([u64; 3]);
+
+impl Heads {
+    fn number(&self) -> u64 {
+        self.0.iter().sum()
+    }
+
+    /// Both sides say the same of a head.
+    fn compare(&mut self, lent: &Lent) -> Result<(), String> {
+        let (found, wanted) = (found(lent), wanted(lent));
+        if found != wanted {
+            return Err(words(lent, &found, &wanted));
         }
-        compare(&lent(&input))?;
+        let reading = READINGS.iter().position(|&named| named == lent.reading);
+        self.0[reading.unwrap_or(2)] += 1;
+        Ok(())
     }
-    wrongly_lent(&whole, random)?;
-    Ok(whole.head_bits + 6)
+
+    /// A head of a shape, whole with bits after it, cut at every bit, and wrongly lent.
+    fn shape(&mut self, shape: &HeadShape, random: &mut Random) -> Result<(), String> {
+        let mut plan = Plan::plain(shape.base_channels, shape.centre, shape.surround);
+        plan.head = shape.head(random);
+        let whole = plan.input();
+        for bits in 0..=whole.head_bits {
+            let mut input = whole.clone();
+            match bits == whole.head_bits {
+                true => pad(random, &mut input, Part::Head),
+                false => cut(&mut input, Part::Head, bits, random.flag()),
+            }
+            self.compare(&lent(&input, random))?;
+        }
+        self.wrongly_lent(&whole, random)
+    }
+
+    /// Each bound of the loan broken once.
+    fn wrongly_lent(&mut self, input: &FrameInput, random: &mut Random) -> Result<(), String> {
+        let mut long = input.clone();
+        long.head.resize(random.pick(&[8192, 8193]), 0);
+        self.compare(&lent(&long, random))?;
+        self.compare(&Lent {
+            bits: 8 * input.head.len() as u64 + 1,
+            ..lent(input, random)
+        })?;
+        self.compare(&Lent {
+            reading: random.pick(&WRONG_READINGS),
+            ..lent(input, random)
+        })?;
+        for base_channels in [0, random.pick(&[3, 4, 255])] {
+            self.compare(&Lent {
+                base_channels,
+                ..lent(input, random)
+            })?;
+        }
+        self.compare(&Lent {
+            room: random.pick(&[0, FIELDS - 1, FIELDS + 1]),
+            ..lent(input, random)
+        })
+    }
 }
 
-fn lent(input: &FrameInput) -> Lent<'_> {
+/// The head of a frame, under a reading drawn at random.
+fn lent<'a>(input: &'a FrameInput, random: &mut Random) -> Lent<'a> {
     Lent {
         bytes: &input.head,
         bits: input.head_bits,
+        reading: random.pick(&READINGS),
         base_channels: input.base_channels as u8,
         room: FIELDS,
     }
-}
-
-/// Each bound of the loan broken once.
-fn wrongly_lent(input: &FrameInput, random: &mut Random) -> Result<(), String> {
-    let mut long = input.clone();
-    long.head.resize(random.pick(&[8192, 8193]), 0);
-    compare(&lent(&long))?;
-    compare(&Lent {
-        bits: 8 * input.head.len() as u64 + 1,
-        ..lent(input)
-    })?;
-    for base_channels in [0, random.pick(&[3, 4, 255])] {
-        compare(&Lent {
-            base_channels,
-            ..lent(input)
-        })?;
-    }
-    compare(&Lent {
-        room: random.pick(&[0, FIELDS - 1, FIELDS + 1]),
-        ..lent(input)
-    })
 }
 
 /// The word of the command line at this place, or the number that stands in for it.
@@ -179,21 +211,22 @@ fn argument(place: usize, default: u64) -> u64 {
 fn main() -> ExitCode {
     let (number, seed) = (argument(1, 1_000_000), argument(2, 1));
     let shapes = HeadShape::all();
-    let (mut heads, mut random) = (0, Random::new(seed));
-    while heads < number {
-        for (k, one) in shapes.iter().enumerate() {
-            match shape(one, &mut random) {
-                Ok(compared) => heads += compared,
-                Err(words) => {
-                    println!(
-                        "heads: DIFFERENT, seed {seed}, shape {k} after {heads} heads\n{words}"
-                    );
-                    return ExitCode::FAILURE;
-                }
+    let (mut heads, mut random) = (Heads::default(), Random::new(seed));
+    while heads.number() < number {
+        for (k, shape) in shapes.iter().enumerate() {
+            if let Err(words) = heads.shape(shape, &mut random) {
+                let compared = heads.number();
+                println!(
+                    "heads: DIFFERENT, seed {seed}, shape {k} after {compared} heads\n{words}"
+                );
+                return ExitCode::FAILURE;
             }
         }
     }
-    let shapes = shapes.len();
-    println!("heads, seed {seed}: {shapes} shapes, {heads} heads compared, no difference");
+    let (shapes, compared, [one, two, other]) = (shapes.len(), heads.number(), heads.0);
+    println!(
+        "heads, seed {seed}: {shapes} shapes, {compared} heads compared ({one} under reading 1, \
+         {two} under reading 2, {other} under another number), no difference"
+    );
     ExitCode::SUCCESS
 }

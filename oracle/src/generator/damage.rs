@@ -60,7 +60,10 @@ pub fn noise(random: &mut Random, input: &mut FrameInput, part: Part) {
     }
 }
 
-/// A loan of refusal 6.
+/// Readings of refusal 6, some with 1 or 2 in their lowest byte.
+pub const WRONG_READINGS: [u32; 6] = [0, 3, 257, 258, 65_537, u32::MAX];
+
+/// A loan of refusal 6; its reading stays.
 pub fn wrong_loan(random: &mut Random, input: &mut FrameInput, state: &mut State) {
     let part = random.pick(&[Part::Head, Part::Payload]);
     match random.below(7) {

@@ -112,6 +112,11 @@ impl Head {
         &self.counts[group][..2 * layout.predicted(self.code_of(group)).len()]
     }
 
+    /// The bits of the header.
+    pub fn header_bits(&self) -> u64 {
+        if self.n_ad_bytes.is_some() { 24 } else { 16 }
+    }
+
     /// The head's string.
     pub fn written(&self, layout: &Layout) -> Written {
         let mut out = Written::default();
@@ -149,7 +154,7 @@ impl Head {
         if let Some(n_ad_bytes) = self.n_ad_bytes {
             out.field(Kind::Header, 8, n_ad_bytes);
         }
-        out.field(Kind::Header, 2, self.centre);
+        out.field(Kind::Centre, 2, self.centre);
         out.field(Kind::Header, 2, self.surround);
         out.flag(Kind::Header, self.lfe);
         out.flag(Kind::Header, self.audio_mix);

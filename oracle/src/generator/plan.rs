@@ -209,7 +209,7 @@ impl Plan {
         }
     }
 
-    /// The frame as it is lent.
+    /// The frame as it is lent, under reading 1.
     pub fn input(&self) -> FrameInput {
         self.lent(&self.head_written(), &self.payload_written())
     }
@@ -221,6 +221,7 @@ impl Plan {
             head_bits: head.bits,
             payload: payload.bytes.clone(),
             payload_bits: payload.bits,
+            reading: 1,
             sample_rate: self.sample_rate,
             base_channels: self.base_channels,
             base_raw: self.base.raw.clone(),
@@ -255,7 +256,7 @@ impl Made {
         }
     }
 
-    /// The frame as it is lent.
+    /// The frame as it is lent, under reading 1.
     pub fn input(&self) -> FrameInput {
         self.plan.lent(&self.head, &self.payload)
     }

@@ -72,6 +72,11 @@ pub const LAYER_THREE: Named<FrameInput> = ("Layer III flag set", |random, made,
     change(random, &fields, input, Part::Head, |_, _| 1)
 });
 
+pub const CENTRE_CODE_2: Named<FrameInput> = ("centre code 2", |random, made, input| {
+    let fields: Vec<Field> = made.head.all(Kind::Centre).collect();
+    change(random, &fields, input, Part::Head, |_, _| 2)
+});
+
 pub const SCALEFACTOR_63: Named<FrameInput> = ("scalefactor 63", |random, made, input| {
     let mut fields: Vec<Field> = made.payload.all(Kind::Scalefactor).collect();
     fields.extend(made.payload.all(Kind::LfeScalefactor));
@@ -110,6 +115,10 @@ pub const SCFSI_CUT: Named<FrameInput> = ("payload cut in scfsi", |random, made,
 
 pub const ALLOCATION: Named<FrameInput> = ("wrong allocation", |random, made, input| {
     all(|| damage::wrong_allocation(random, &made.plan, input))
+});
+
+pub const WRONG_READING: Named<FrameInput> = ("wrong reading", |random, _, input| {
+    all(|| input.reading = random.pick(&damage::WRONG_READINGS))
 });
 
 /// A change that every frame gives a hold for.

@@ -3,8 +3,10 @@
 /// What a field is.
 #[derive(Debug, Clone, Copy, PartialEq, Eq, Hash)]
 pub enum Kind {
-    /// A header field other than the next one.
+    /// A header field other than the next two.
     Header,
+    /// The header's centre code.
+    Centre,
     /// The header's Layer III flag.
     LayerThree,
     CheckWord,

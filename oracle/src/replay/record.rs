@@ -94,7 +94,7 @@ impl Record {
         }
     }
 
-    /// The frame as it is lent, and the state where it starts a new one.
+    /// The frame as it is lent, under reading 1, and the state where it starts a new one.
     pub fn lent(&self) -> (FrameInput, Option<State>) {
         let right = if self.right { 1152 } else { 0 };
         let history = if self.start.is_some() { 576 } else { 0 };
@@ -113,6 +113,7 @@ impl Record {
             head_bits: self.head_bits.into(),
             payload: resized(&self.payload, self.payload_len),
             payload_bits: self.payload_bits.into(),
+            reading: 1,
             sample_rate: self.rate,
             base_channels: self.base_channels.into(),
             base_raw: channels([raw_left, raw_right]),

@@ -126,6 +126,7 @@ impl<'a> Bytes<'a> {
         Some(values.as_chunks::<32>().0.to_vec())
     }
 
+    /// A frame. The file names no reading: it is 1.
     fn frame(&mut self) -> Option<FrameInput> {
         let (sample_rate, channels, lfe_allocation) = (self.u32()?, self.u8()?, self.u8()?);
         let [head_len, head_bits, payload_len, payload_bits] =
@@ -147,6 +148,7 @@ impl<'a> Bytes<'a> {
             head_bits: u64::from(head_bits),
             payload,
             payload_bits: u64::from(payload_bits),
+            reading: 1,
             sample_rate,
             base_channels: usize::from(channels),
             base_raw,

@@ -9,6 +9,12 @@ use Rattle.mc_head.proofs.read_fields.Tie as tie
 read-mc-header-requires : tie.Need-read-mc-header-requires
 read-mc-header-requires c κs = search needs
 
+centre-stops-requires : tie.Need-centre-stops-requires
+centre-stops-requires c κs = search needs
+
+refuse-if-requires : tie.Need-refuse-if-requires
+refuse-if-requires c κs = search needs
+
 read-requires : tie.Need-read-requires
 read-requires c κs = search needs
 
@@ -32,6 +38,8 @@ read-fields-spec =
     tie.close
     (tie.spec
     read-mc-header-requires
+    centre-stops-requires
+    refuse-if-requires
     read-requires
     cast-check-word
     from-header-requires

@@ -12,6 +12,7 @@ use borrow.Author.Tests.{leb-true, ne-eqb}
 use Rattle.bits.specs.Syntax.{Refusal, Outcome, accepted, refused, run}
 use Rattle.fill.specs.TabLaws.{getD-tab}
 use Rattle.bitalloc.specs.Classes.{isClass}
+use Rattle.mc_config.specs.Reading.{readingFits}
 use Rattle.mc_fields.specs.Lent.{stringFits, baseFits}
 use Rattle.mc_payload.specs.declared.McSettings.{McSettings}
 use Rattle.mc_payload.specs.Places.{transmitted, stepsAt, ownAt, place, stepsOf, ownOf}
@@ -43,9 +44,9 @@ passed false o x a u e = let z : _≡_ {A = ℕ} 0 1 = cc in absurd (omega arith
 
 -- ---- an accepted payload
 
--- rate, base channel count, LFE allocation and step counts are as document 01 says
+-- reading, rate, base channel count, LFE allocation and step counts are as document 01 says
 abbrev pub Lent : Loan → Type 0
-Lent l = loanFits (l .rate) (l .baseChannels) (l .lfe) (l .steps) (l .baseSteps) ≡ true
+Lent l = loanFits (l .reading) (l .rate) (l .baseChannels) (l .lfe) (l .steps) (l .baseSteps) ≡ true
 
 pub record Accepted (l : Loan) (b : List ℕ) (n : ℕ) (c : Codes) (u : ℕ) : Type 0 where
   pub string : stringFits b n ≡ true
@@ -71,7 +72,8 @@ module _ (l : Loan) (b : List ℕ) (n : ℕ) where
 pub lfe-low : (l : Loan) → Lent l → l .lfe ≤ 15
 unfolding loanFits
 lfe-low l e =
-    let rate = both-true (rateFits (l .rate)) _ e in
+    let reading = both-true (readingFits (l .reading)) _ e in
+    let rate = both-true (rateFits (l .rate)) _ (reading .1) in
     let base = both-true (baseFits (l .baseChannels)) _ (rate .1) in
     leb-true (l .lfe) 15 (both-true (leb (l .lfe) 15) _ (base .1) .0)
 

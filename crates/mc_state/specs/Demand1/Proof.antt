@@ -1,9 +1,9 @@
 -- Demand 1 holds.
 use mathlib.Core.Path.{_≡_, refl, ap}
-use mathlib.Core.Bool.{Bool, true, false, _&&_, cond}
+use mathlib.Core.Bool.{Bool, true, false, cond}
 use mathlib.Core.List.{List}
-use mathlib.Core.Logic.{_⊎_, inl, inr, ⊎-elim}
-use Prim.Native.Nat.{ℕ, _≤_}
+use mathlib.Core.Logic.{inl, inr, ⊎-elim}
+use Prim.Native.Nat.{ℕ}
 use native.Mathlib.Omega.{arith}
 use Rattle.bits.specs.Syntax.{Refusal, plain, Outcome, accepted, refused, run}
 use Rattle.bits.specs.Yields.{refused-yields}
@@ -12,7 +12,7 @@ use Rattle.mc_fields.specs.declared.McStatus.{McStatus}
 use Rattle.mc_fields.specs.Head.{head}
 use Rattle.mc_fields.specs.HeadYields.{head-refused}
 use Rattle.mc_fields.specs.StatusYields.{Forbids}
-use Rattle.mc_fields.specs.Lent.{stringFits, baseFits, headOf}
+use Rattle.mc_fields.specs.Lent.{headFits, headOf}
 use Rattle.mc_payload.specs.declared.McSettings.{McSettings}
 use Rattle.mc_payload.specs.Payload.{Codes}
 use Rattle.mc_payload.specs.PayloadYields.{payload-yields}
@@ -21,50 +21,52 @@ use Rattle.mc_unpack.specs.Settled.{settledOf}
 use Rattle.mc_output.specs.Output.{channels}
 use Rattle.mc_state.specs.declared.McDecodeState.{McDecodeState}
 use Rattle.mc_state.specs.Frame.{Lent, Buffers, Verdict, refusal, changed, frame, settingsFor, follows, lentFits, valuesFit, verdictUnpacked, verdictHead, verdictOf, answerOf, buffersOf, stateOf, afterVerdict, frameOf}
-use Rattle.mc_state.specs.Demand1.{Found, Numbered, Stored, Left, Written, RefusedLeaves, AcceptedWrites}
+use Rattle.mc_state.specs.Demand1.{Found, among, frameNumbers, Numbered, Stored, Left, Written, RefusedLeaves, AcceptedWrites}
 
 -- ---- refusals before the layout is compared
 
 record Early (x : Refusal) : Type 0 where
-  numbered : Numbered x
+  numbered : Numbered frameNumbers x
   before : x ≡ plain 5 → ⊥
 
-early-plain : (n : ℕ) → 1 ≤ n → n ≤ 8 → (n ≡ 5 → ⊥) → (x : Refusal) → x ≡ plain n → Early x
-early-plain n a b d x e =
+early-plain : (n : ℕ) → among frameNumbers n ≡ true → (n ≡ 5 → ⊥) → (x : Refusal) → x ≡ plain n → Early x
+early-plain n a d x e =
     rw e
     (record {
-      numbered = record { least = a; most = b; bare = inr refl };
+      numbered = record { number = a; bare = inr refl };
       before = λ q. d (ap (λ (r : Refusal). r .number) q);
     })
 
 early-1 : (x : Refusal) → x ≡ plain 1 → Early x
-early-1 = early-plain 1 (omega arith) (omega arith) (λ q. omega arith)
+unfolding among
+early-1 = early-plain 1 refl (λ q. omega arith)
 
 forbids-early : (x : Refusal) → Forbids x → Early x
+unfolding among
 forbids-early x f =
     record {
-      numbered = record { least = omega (arith, f .number); most = omega (arith, f .number); bare = inl (f .number) };
+      numbered = record { number = rw (f .number); bare = inl (f .number) };
       before = λ q. let n : x .number ≡ 5 = ap (λ (r : Refusal). r .number) q in omega (arith, f .number);
     }
 
-head-early : (bytes : List ℕ) (bits baseChannels : ℕ) (x : Refusal) → headOf bytes bits baseChannels ≡ refused x → Early x
-unfolding headOf
-head-early bytes bits baseChannels x = go (stringFits bytes bits && baseFits baseChannels)
+head-early : (reading : ℕ) (bytes : List ℕ) (bits baseChannels : ℕ) (x : Refusal) → headOf reading bytes bits baseChannels ≡ refused x → Early x
+unfolding headOf among
+head-early reading bytes bits baseChannels x = go (headFits reading bytes bits baseChannels)
   where
-    go : (t : Bool) → cond t (run (head baseChannels) bytes bits 0) (refused (plain 6)) ≡ refused x → Early x
-    go true e = ⊎-elim (early-1 x) (forbids-early x) (head-refused baseChannels bytes bits 0 x e)
-    go false e = let q : x ≡ plain 6 = cc in early-plain 6 (omega arith) (omega arith) (λ z. omega arith) x q
+    go : (t : Bool) → cond t (run (head reading baseChannels) bytes bits 0) (refused (plain 6)) ≡ refused x → Early x
+    go true e = ⊎-elim (early-1 x) (λ o. ⊎-elim (early-plain 13 refl (λ z. omega arith) x) (forbids-early x) o) (head-refused reading baseChannels bytes bits 0 x e)
+    go false e = let q : x ≡ plain 6 = cc in early-plain 6 refl (λ z. omega arith) x q
 
 settled-early : (s : McSettings) (bytes : List ℕ) (bits : ℕ) (x : Refusal) → settledOf s bytes bits ≡ refused x → Early x
-unfolding settledOf payloadOf
+unfolding settledOf payloadOf among
 settled-early s bytes bits x = go (allocationsFit s)
   where
     go : (t : Bool) → cond t (run (payloadOf s) bytes bits 0) (refused (plain 8)) ≡ refused x → Early x
     go true e =
         ⊎-elim (early-1 x)
-        (λ h. ⊎-elim (early-plain 3 (omega arith) (omega arith) (λ z. omega arith) x) (early-plain 4 (omega arith) (omega arith) (λ z. omega arith) x) h)
+        (λ h. ⊎-elim (early-plain 3 refl (λ z. omega arith) x) (early-plain 4 refl (λ z. omega arith) x) h)
         (refused-yields (payload-yields _ _ _ _ _) bytes bits 0 x e)
-    go false e = let q : x ≡ plain 8 = cc in early-plain 8 (omega arith) (omega arith) (λ z. omega arith) x q
+    go false e = let q : x ≡ plain 8 = cc in early-plain 8 refl (λ z. omega arith) x q
 
 -- ---- how each verdict comes about
 
@@ -82,7 +84,7 @@ Way l (frame s c headUsed used) = Found l s c headUsed used
 module _ (l : Lent) (st : McDecodeState) where
   way-unpacked :
       (header : McHeader) (word : ℕ) (status : McStatus) (headUsed : ℕ)
-      → headOf (l .head) (l .headBits) (l .baseChannels) ≡ accepted (header, (word, status)) headUsed
+      → headOf (l .reading) (l .head) (l .headBits) (l .baseChannels) ≡ accepted (header, (word, status)) headUsed
       → (o : Outcome Codes)
       → settledOf (settingsFor l header status) (l .payload) (l .payloadBits) ≡ o
       → Way l (verdictUnpacked st (settingsFor l header status) headUsed o)
@@ -99,29 +101,29 @@ module _ (l : Lent) (st : McDecodeState) where
 
   way-head :
       (o : Outcome (McHeader × (ℕ × McStatus)))
-      → headOf (l .head) (l .headBits) (l .baseChannels) ≡ o
+      → headOf (l .reading) (l .head) (l .headBits) (l .baseChannels) ≡ o
       → Way l (verdictHead l st o)
   unfolding Way verdictHead
-  way-head (refused x) e = head-early _ _ _ x e
+  way-head (refused x) e = head-early _ _ _ _ x e
   way-head (accepted (header, (word, status)) headUsed) e = way-unpacked header word status headUsed e _ refl
 
   way : (w : Buffers) → Way l (verdictOf l w st)
-  unfolding Way verdictOf
+  unfolding Way verdictOf among
   way w = loan (lentFits l w st)
     where
-      values : (t : Bool) → Way l (cond t (verdictHead l st (headOf (l .head) (l .headBits) (l .baseChannels))) (refusal (plain 7)))
+      values : (t : Bool) → Way l (cond t (verdictHead l st (headOf (l .reading) (l .head) (l .headBits) (l .baseChannels))) (refusal (plain 7)))
       values true = way-head _ refl
-      values false = early-plain 7 (omega arith) (omega arith) (λ z. omega arith) (plain 7) refl
+      values false = early-plain 7 refl (λ z. omega arith) (plain 7) refl
 
-      loan : (t : Bool) → Way l (cond t (cond (valuesFit (l .base) (st .«pred_hist»)) (verdictHead l st (headOf (l .head) (l .headBits) (l .baseChannels))) (refusal (plain 7))) (refusal (plain 6)))
+      loan : (t : Bool) → Way l (cond t (cond (valuesFit (l .base) (st .«pred_hist»)) (verdictHead l st (headOf (l .reading) (l .head) (l .headBits) (l .baseChannels))) (refusal (plain 7))) (refusal (plain 6)))
       loan true = values (valuesFit (l .base) (st .«pred_hist»))
-      loan false = early-plain 6 (omega arith) (omega arith) (λ z. omega arith) (plain 6) refl
+      loan false = early-plain 6 refl (λ z. omega arith) (plain 6) refl
 
 -- ---- what each leaves
 
 module _ (l : Lent) (w : Buffers) (st : McDecodeState) where
   left-by : (v : Verdict) → Way l v → (x : Refusal) → answerOf v ≡ refused x → Left x l w st (afterVerdict v (l .base) w st)
-  unfolding Way answerOf buffersOf stateOf
+  unfolding Way answerOf buffersOf stateOf among
   left-by (refusal r) h x e =
       let q : r ≡ x = cc in
       let f : Early x = rw q at h in
@@ -129,7 +131,7 @@ module _ (l : Lent) (w : Buffers) (st : McDecodeState) where
   left-by (changed s) h x e =
       let q : x ≡ plain 5 = cc in
       record {
-        numbered = rw q (record { least = omega arith; most = omega arith; bare = inr refl });
+        numbered = rw q (record { number = refl; bare = inr refl });
         buffers = refl;
         state = λ n. absurd (n q);
         stored =

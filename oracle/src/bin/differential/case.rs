@@ -34,9 +34,12 @@ pub const SLICES: [&str; 10] = [
 ];
 
 impl Case {
-    pub fn of(made: &Made, state: &State) -> Case {
+    pub fn of(made: &Made, state: &State, reading: u32) -> Case {
         Case {
-            input: made.input(),
+            input: FrameInput {
+                reading,
+                ..made.input()
+            },
             state: state.clone(),
             wrong_length: None,
             done: vec![],
@@ -69,13 +72,14 @@ impl Case {
 }
 
 /// The ways in the order in which they are combined: bits first, then counts, then the rest.
-const SPOILS: [Way<Case>; 23] = [
+const SPOILS: [Way<Case>; 25] = [
     Way::Input(spoil::HEAD_BIT),
     Way::Input(spoil::PAYLOAD_BIT),
     Way::Input(spoil::HEAD_FIELD),
     Way::Input(spoil::PAYLOAD_FIELD),
     Way::Input(spoil::CROSSTALK_CODE),
     Way::Input(spoil::LAYER_THREE),
+    Way::Input(spoil::CENTRE_CODE_2),
     Way::Input(spoil::SCALEFACTOR_63),
     Way::Input(spoil::HEAD_NOISE),
     Way::Input(spoil::PAYLOAD_NOISE),
@@ -104,6 +108,7 @@ const SPOILS: [Way<Case>; 23] = [
     Way::Case(("wrong loan", |random, _, case| {
         all(|| damage::wrong_loan(random, &mut case.input, &mut case.state))
     })),
+    Way::Input(spoil::WRONG_READING),
     Way::Input(("wrong base count", |random, _, input| {
         let other = 3 - input.base_channels;
         all(|| input.base_channels = random.pick(&[0, 3, 4, 255, other]))

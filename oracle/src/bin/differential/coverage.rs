@@ -2,11 +2,12 @@
 
 use crate::case::{Case, SLICES};
 use oracle::generator::layout::{Layout, STEPS};
+use oracle::input::READINGS;
 use oracle::scope::Refusal;
 use oracle::{FrameInput, FrameOutput};
 use std::collections::BTreeMap;
 
-/// What frames are counted by. All but the first three count accepted frames.
+/// What frames are counted by. All but the first four count accepted frames.
 #[derive(Debug, Clone, Copy, PartialEq, Eq, PartialOrd, Ord)]
 enum By {
     Answer,
@@ -14,6 +15,10 @@ enum By {
     Forbidden,
     /// The slice whose length is wrong.
     WrongLength,
+    /// The reading, 3 for any other number.
+    Reading,
+    /// The reading of an accepted frame.
+    AcceptedUnder,
     /// Front, surround and second stereo as one number.
     Layout,
     BaseChannels,
@@ -51,6 +56,8 @@ impl Coverage {
         if let Some((slice, _)) = case.wrong_length {
             self.add(By::WrongLength, slice as u32, 0);
         }
+        let named = READINGS.contains(&case.input.reading);
+        self.add(By::Reading, if named { case.input.reading } else { 3 }, 0);
         match answer {
             Err(refusal) => {
                 self.add(By::Answer, refusal.number, 0);
@@ -67,6 +74,7 @@ impl Coverage {
         let second = u32::from(config.second_stereo);
         let layout = layout_number(config.front, config.surround, second);
         self.add(By::Answer, 0, 0);
+        self.add(By::AcceptedUnder, input.reading, 0);
         self.add(By::Layout, layout, 0);
         self.add(By::BaseChannels, input.base_channels as u32, 0);
         self.add(By::Rate, input.sample_rate, 0);
@@ -170,6 +178,8 @@ fn label((by, first, second): (By, u32, u32)) -> String {
         By::Answer if first == 0 => "accepted".to_string(),
         By::Answer => format!("refusal {first}"),
         By::WrongLength => SLICES[first as usize].to_string(),
+        By::Reading if first == 3 => "another".to_string(),
+        By::AcceptedUnder => format!("reading {first}"),
         By::Layout => layout_name(first),
         By::Tc | By::Code => second.to_string(),
         By::Forbidden => format!("code {second} in {first}"),
@@ -185,7 +195,10 @@ fn wanted() -> Vec<(By, u32, u32)> {
         cells.extend(numbers.map(|n| (by, n, 0)));
     };
     range(By::Answer, 0..9);
+    range(By::Answer, 13..14);
     range(By::WrongLength, 0..10);
+    range(By::Reading, 1..4);
+    range(By::AcceptedUnder, 1..3);
     range(By::BaseChannels, 1..3);
     range(By::Procedure, 0..4);
     range(By::LfeAllocation, 0..16);

@@ -1,4 +1,5 @@
-//! Heads of every shape, whole and cut at every bit, in frames without anything to transmit.
+//! Heads of every shape, whole and cut at every bit, in frames without anything to transmit. Each is
+//! lent under a reading drawn at random.
 
 use crate::case::Case;
 use crate::run::Run;
@@ -6,6 +7,7 @@ use crate::sequence::{Stopped, compare};
 use oracle::FrameInput;
 use oracle::generator::damage::{Part, cut, pad};
 use oracle::generator::{HeadShape, Plan, Random};
+use oracle::input::READINGS;
 use oracle::scope::State;
 use std::sync::LazyLock;
 
@@ -25,6 +27,7 @@ pub fn head(run: &mut Run, seed: u64, number: u64) -> Result<(), Stopped> {
     let whole = plan.input();
     for bits in 0..=whole.head_bits {
         let mut input = whole.clone();
+        input.reading = random.pick(&READINGS);
         match bits == whole.head_bits {
             true => pad(&mut random, &mut input, Part::Head),
             false => cut(&mut input, Part::Head, bits, random.flag()),

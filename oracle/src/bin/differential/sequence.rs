@@ -1,10 +1,12 @@
-//! Sequences of frames through one state: spoiled ones, then the good one, then the next plan.
+//! Sequences of frames through one state: spoiled ones, then the whole one, then the next plan. Each
+//! frame is lent under a reading drawn at random.
 
 use crate::case::{Case, spoil};
 use crate::lent::Compared;
 use crate::run::{Run, words};
 use oracle::generator::damage::{Part, cut};
 use oracle::generator::{Made, Plan, Random, base};
+use oracle::input::READINGS;
 use oracle::scope::State;
 use std::sync::LazyLock;
 
@@ -37,16 +39,16 @@ pub fn sequence(run: &mut Run, seed: u64, number: u64) -> Result<(), Stopped> {
         let shape = shape(&mut random, run.state.count);
         let made = Made::of(Plan::of_shape(shape, random.bits64()));
         for _ in 0..random.below(6) {
-            let mut case = Case::of(&made, &run.state);
+            let mut case = Case::of(&made, &run.state, random.pick(&READINGS));
             spoil(&mut random, &made, &mut case);
             compare(run, &case, || {
                 format!("step {step}, shape {shape}, spoiled")
             })?;
         }
         if random.chance(1, CUT_ONE_OF) && made.payload.bits < 3000 {
-            every_cut(run, &made, random.flag())?;
+            every_cut(run, &made, &mut random)?;
         }
-        let mut case = Case::of(&made, &run.state);
+        let mut case = Case::of(&made, &run.state, random.pick(&READINGS));
         case.done.push("nothing");
         compare(run, &case, || format!("step {step}, shape {shape}"))?;
     }
@@ -61,19 +63,20 @@ pub fn cut_frame(run: &mut Run, seed: u64, number: u64) -> Result<(), Stopped> {
         _ => Plan::random(random.bits64()),
     });
     start(run, &mut random).map_err(|difference| (difference, "fresh state".to_string()))?;
-    every_cut(run, &made, random.flag())?;
-    let case = Case::of(&made, &run.state);
+    every_cut(run, &made, &mut random)?;
+    let case = Case::of(&made, &run.state, random.pick(&READINGS));
     compare(run, &case, || "whole".to_string())
 }
 
 /// Cuts both strings at every bit.
-pub fn every_cut(run: &mut Run, made: &Made, shorten: bool) -> Result<(), Stopped> {
+pub fn every_cut(run: &mut Run, made: &Made, random: &mut Random) -> Result<(), Stopped> {
+    let shorten = random.flag();
     for (part, bits) in [
         (Part::Head, made.head.bits),
         (Part::Payload, made.payload.bits),
     ] {
         for at in 0..bits {
-            let mut case = Case::of(made, &run.state);
+            let mut case = Case::of(made, &run.state, random.pick(&READINGS));
             cut(&mut case.input, part, at, shorten);
             case.done.push("cut at every bit");
             compare(run, &case, || format!("{part:?} cut to {at} bits"))?;

@@ -3,7 +3,7 @@
 use crate::call::{BUFFERS, MARGIN};
 use oracle::FrameInput;
 use oracle::flat::Flat;
-use oracle::generator::damage::unknown_steps;
+use oracle::generator::damage::{WRONG_READINGS, unknown_steps};
 use oracle::generator::spoil::{self, Way, all, bits_past, either};
 use oracle::generator::{Made, Random};
 
@@ -29,9 +29,12 @@ pub fn slice_name(slice: usize) -> &'static str {
 }
 
 impl Case {
-    pub fn of(made: &Made) -> Case {
+    pub fn of(made: &Made, reading: u32) -> Case {
         let mut case = Case {
-            input: made.input(),
+            input: FrameInput {
+                reading,
+                ..made.input()
+            },
             wrong_length: None,
             done: vec![],
         };
@@ -72,12 +75,13 @@ impl Case {
 }
 
 /// The ways in the order in which they are combined: bits first, then counts, then the rest.
-const SPOILS: [Way<Case>; 17] = [
+const SPOILS: [Way<Case>; 18] = [
     Way::Input(spoil::HEAD_BIT),
     Way::Input(spoil::PAYLOAD_BIT),
     Way::Input(spoil::PAYLOAD_FIELD),
     Way::Input(spoil::CROSSTALK_CODE),
     Way::Input(spoil::LAYER_THREE),
+    Way::Input(spoil::CENTRE_CODE_2),
     Way::Input(spoil::SCALEFACTOR_63),
     Way::Input(spoil::PAYLOAD_NOISE),
     Way::Input(spoil::HEAD_PADDED),
@@ -120,11 +124,12 @@ fn wrong_string(random: &mut Random, input: &mut FrameInput) {
     }
 }
 
-/// A rate, an LFE allocation or a base step count that there is not.
+/// A rate, an LFE allocation, a reading or a base step count that there is not.
 fn wrong_number(random: &mut Random, input: &mut FrameInput) {
-    match random.below(3) {
+    match random.below(4) {
         0 => input.sample_rate = random.pick(&[0, 22_050, 24_000, 44_101, 96_000, u32::MAX]),
         1 => input.lfe_allocation = random.pick(&[16, 17, 255]),
+        2 => input.reading = random.pick(&WRONG_READINGS),
         _ => {
             let row = random.below(input.base_channels as u32) as usize;
             let subband = random.below(32) as usize;

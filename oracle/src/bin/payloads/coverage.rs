@@ -3,14 +3,17 @@
 use crate::case::{Case, SLICES, slice_name};
 use oracle::FrameOutput;
 use oracle::generator::layout::{Layout, STEPS};
+use oracle::input::READINGS;
 use oracle::scope::Refusal;
 use std::collections::BTreeMap;
 
-/// What payloads are counted by. All but the first three count accepted ones.
-const KINDS: [&str; 12] = [
+/// What payloads are counted by. All but the first four count accepted ones.
+const KINDS: [&str; 14] = [
     "answer",
     "done",
     "wrong length",
+    "reading",
+    "accepted by reading",
     "layout",
     "base channels",
     "rate",
@@ -35,6 +38,7 @@ impl Coverage {
         if let Some((slice, _)) = case.wrong_length {
             self.add("wrong length", slice_name(slice));
         }
+        self.add("reading", reading_name(case.input.reading));
         match answer {
             Err(refusal) => self.add("answer", format!("refusal {}", refusal.number)),
             Ok(frame) => {
@@ -48,6 +52,7 @@ impl Coverage {
         let (input, payload) = (&case.input, &frame.payload);
         let config = &frame.head.config;
         let layout = layout_name(config.front, config.surround, config.second_stereo);
+        self.add("accepted by reading", input.reading);
         self.add("layout", layout);
         self.add("base channels", input.base_channels);
         self.add("rate", number(input.sample_rate));
@@ -119,6 +124,13 @@ fn number(n: u32) -> String {
     format!("{n:5}")
 }
 
+fn reading_name(reading: u32) -> String {
+    match READINGS.contains(&reading) {
+        true => reading.to_string(),
+        false => "another".to_string(),
+    }
+}
+
 fn layout_name(front: u8, surround: u8, second_stereo: bool) -> String {
     let second = if second_stereo { "+2" } else { "" };
     format!("{front}/{surround}{second}")
@@ -131,14 +143,16 @@ fn wanted() -> Vec<(&'static str, String)> {
         let layout = Layout::of(1 + k as usize % 2, k / 2 % 4, k / 8);
         layout_name(layout.front, layout.surround, layout.second_stereo)
     });
-    let refusals = [1, 2, 3, 4, 6, 8].map(|n| format!("refusal {n}"));
-    let kinds: [(&'static str, Vec<String>); 12] = [
+    let refusals = [1, 2, 3, 4, 6, 8, 13].map(|n| format!("refusal {n}"));
+    let kinds: [(&'static str, Vec<String>); 14] = [
         ("answer", vec!["accepted".to_string()]),
         ("answer", refusals.to_vec()),
         (
             "wrong length",
             (0..SLICES).map(|k| slice_name(k).to_string()).collect(),
         ),
+        ("reading", [1, 2, 3].map(reading_name).to_vec()),
+        ("accepted by reading", numbers(1..3)),
         ("layout", layouts.collect()),
         ("base channels", numbers(1..3)),
         ("rate", [32_000, 44_100, 48_000].map(number).to_vec()),

@@ -1,5 +1,6 @@
 //! Compares the proved unpacking with the published Rust, field by field: payloads of every layout,
-//! rate and class, whole, cut, damaged and wrongly lent. Ends with status 1 at the first difference.
+//! rate and class, whole, cut, damaged and wrongly lent, each under a reading drawn at random. Ends
+//! with status 1 at the first difference.
 
 mod call;
 mod case;
@@ -12,6 +13,7 @@ use case::{Case, spoil};
 use coverage::Coverage;
 use oracle::generator::damage::{Part, cut};
 use oracle::generator::{Made, Plan, Random};
+use oracle::input::READINGS;
 use oracle::scope::Refusal;
 use record::{Record, judged, packed};
 use std::process::ExitCode;
@@ -63,9 +65,9 @@ impl Run {
     fn piece(&mut self, seed: u64) -> Result<(), String> {
         let made = Made::of(Plan::random(seed));
         let random = &mut Random::new(!seed);
-        self.whole(&made)?;
+        self.whole(&made, random)?;
         for _ in 0..SPOILED {
-            let mut case = Case::of(&made);
+            let mut case = Case::of(&made, random.pick(&READINGS));
             spoil(random, &made, &mut case);
             self.compare(&case)?;
         }
@@ -75,27 +77,30 @@ impl Run {
         Ok(())
     }
 
-    fn whole(&mut self, made: &Made) -> Result<(), String> {
-        match self.compare(&Case::of(made))? {
-            0 => Ok(()),
-            number => Err(format!("a whole payload is refused as {number}")),
+    /// Compares a case: the answer is this one, or 13 where the centre code stops it.
+    fn answered(&mut self, made: &Made, case: &Case, answer: u64) -> Result<(), String> {
+        let wanted = if centre_stops(made, case) { 13 } else { answer };
+        match self.compare(case)? {
+            found if found == wanted => Ok(()),
+            found => Err(format!("{}\nanswer {found}, not {wanted}", words(case))),
         }
     }
 
-    /// Both strings of a payload cut at every bit: each is short.
+    fn whole(&mut self, made: &Made, random: &mut Random) -> Result<(), String> {
+        self.answered(made, &Case::of(made, random.pick(&READINGS)), 0)
+    }
+
+    /// Both strings of a payload cut at every bit: each is short, unless the centre code stops it.
     fn cut_at_every_bit(&mut self, made: &Made, random: &mut Random) -> Result<(), String> {
         for (part, used) in [
             (Part::Head, made.head.bits),
             (Part::Payload, made.payload.bits),
         ] {
             for bits in 0..used {
-                let mut case = Case::of(made);
+                let mut case = Case::of(made, random.pick(&READINGS));
                 cut(&mut case.input, part, bits, random.flag());
                 case.done.push("cut at every bit");
-                let number = self.compare(&case)?;
-                if number != 1 {
-                    return Err(format!("{}\nrefusal {number}, not 1", words(&case)));
-                }
+                self.answered(made, &case, 1)?;
             }
         }
         Ok(())
@@ -108,8 +113,9 @@ impl Run {
         if (head, payload) != (232, 55_134) {
             return Err(format!("not the longest: {head} and {payload} bits"));
         }
-        self.whole(&made)?;
-        self.cut_at_every_bit(&made, &mut Random::new(seed))?;
+        let random = &mut Random::new(seed);
+        self.whole(&made, random)?;
+        self.cut_at_every_bit(&made, random)?;
         Ok(format!(
             "head of {head} bits and payload of {payload} bits: accepted; {} head bits: refusal 1; \
              {} payload bits: refusal 1; so is every other cut",
@@ -117,6 +123,12 @@ impl Run {
             payload - 1
         ))
     }
+}
+
+/// Whether reading 2 stops the payload of a plan at its head, of which the header is whole.
+fn centre_stops(made: &Made, case: &Case) -> bool {
+    let (head, input) = (&made.plan.head, &case.input);
+    head.centre == 2 && input.reading == 2 && input.head_bits >= head.header_bits()
 }
 
 /// The longest head and payload with other codes; crosstalk is on with code 0 in every group.

@@ -12,12 +12,12 @@ use std::time::Instant;
 const ROUNDS: usize = 41;
 
 /// The mean, over payloads of one kind, of the least time that each side has taken to read each. The
-/// least is what other work on the machine changes least.
+/// least is what other work on the machine changes least. The reading is 1.
 pub fn line(name: &str, plans: impl Iterator<Item = Plan>) -> String {
     let mut buffers = Buffers::new();
     let (mut ours, mut theirs, mut payloads) = (0.0, 0.0, 0.0);
     for plan in plans {
-        let input = Case::of(&Made::of(plan)).input;
+        let input = Case::of(&Made::of(plan), 1).input;
         let flat = Flat::of(&input);
         let (mut our, mut their) = (f64::INFINITY, f64::INFINITY);
         for _ in 0..ROUNDS {

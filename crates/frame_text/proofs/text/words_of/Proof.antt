@@ -80,6 +80,15 @@ slice-aggregate-text-of-8 c = search needs
 text-of-requires-8 : tie.Need-text-of-requires-8
 text-of-requires-8 c κs = search needs
 
+enum-told-9 : tie.Need-enum-told-9
+enum-told-9 c = search needs
+
+slice-aggregate-text-of-9 : tie.Need-slice-aggregate-text-of-9
+slice-aggregate-text-of-9 c = search needs
+
+text-of-requires-9 : tie.Need-text-of-requires-9
+text-of-requires-9 c κs = search needs
+
 returns : tie.Need-returns
 unfolding ascii wordsOf tab
 returns c = spelled _ (c .text-of .ensures) (sym (ap wordsOf (c .before .before .enum-told .given .1)))
@@ -112,6 +121,10 @@ returns-8 : tie.Need-returns-8
 unfolding ascii wordsOf tab
 returns-8 c = spelled _ (c .text-of8 .ensures) (sym (ap wordsOf (c .before .before .enum-told8 .given .1)))
 
+returns-9 : tie.Need-returns-9
+unfolding ascii wordsOf tab
+returns-9 c = spelled _ (c .text-of9 .ensures) (sym (ap wordsOf (c .before .before .enum-told9 .given .1)))
+
 pub words-of-spec : {M : Type 1} → statement M
 words-of-spec =
     tie.close
@@ -140,6 +153,9 @@ words-of-spec =
     enum-told-8
     slice-aggregate-text-of-8
     text-of-requires-8
+    enum-told-9
+    slice-aggregate-text-of-9
+    text-of-requires-9
     returns
     returns-2
     returns-3
@@ -147,4 +163,5 @@ words-of-spec =
     returns-5
     returns-6
     returns-7
-    returns-8)
+    returns-8
+    returns-9)

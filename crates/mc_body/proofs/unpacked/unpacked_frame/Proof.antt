@@ -80,8 +80,8 @@ finish-payload-requires c κs =
     )
 
 -- src/unpacked.rt:124:25
-cast-t49 : tie.Need-cast-t49
-cast-t49 c = channels-fit (c .before .before .before .before .before .before .before .before .before .before .before .before .before .before .before .before .before .before .before .before .before .before .before .settings .result) _ (c .before .before .before .before .before .before .before .before .before .before .before .before .before .before .before .before .before .before .before .before .channel-count .ensures)
+cast-t50 : tie.Need-cast-t50
+cast-t50 c = channels-fit (c .before .before .before .before .before .before .before .before .before .before .before .before .before .before .before .before .before .before .before .before .before .before .before .settings .result) _ (c .before .before .before .before .before .before .before .before .before .before .before .before .before .before .before .before .before .before .before .before .channel-count .ensures)
 
 -- src/unpacked.rt:125:23
 one-more-requires : tie.Need-one-more-requires
@@ -128,7 +128,7 @@ unpacked-frame-spec =
     returns-2
     write-samples-requires
     finish-payload-requires
-    cast-t49
+    cast-t50
     one-more-requires
     same-length
     same-length-2

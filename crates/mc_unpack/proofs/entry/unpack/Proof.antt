@@ -12,7 +12,7 @@ error-of-requires : tie.Need-error-of-requires
 error-of-requires c κs =
     let d = c .before in
     let a = d .before .before .before .before .before .before .args in
-    let l = loanBy (a .rate) (a .base-channels) (a .header) (a .status) (a .lfe-allocation) (a .nb-steps .now) (a .base-nb-steps .now) in
+    let l = loanBy (a .reading) (a .rate) (a .base-channels) (a .header) (a .status) (a .lfe-allocation) (a .nb-steps .now) (a .base-nb-steps .now) in
     refused-number l (a .bytes .now) (a .bits) (a .raw .now) (a .lfe .now) _ (d .decide .ensures) (c .if1 .taken)
 
 refused-requires : tie.Need-refused-requires
@@ -23,7 +23,7 @@ returns c =
     let test = c .before .before in
     let d = test .before in
     let a = d .before .before .before .before .before .before .args in
-    let l = loanBy (a .rate) (a .base-channels) (a .header) (a .status) (a .lfe-allocation) (a .nb-steps .now) (a .base-nb-steps .now) in
+    let l = loanBy (a .reading) (a .rate) (a .base-channels) (a .header) (a .status) (a .lfe-allocation) (a .nb-steps .now) (a .base-nb-steps .now) in
     refused-after l (a .bytes .now) (a .bits) (a .raw .now) (a .lfe .now) _ (d .decide .ensures) (test .if1 .taken) _ (c .before .error-of .ensures) _ (c .refused .ensures)
 
 write-raw-requires : tie.Need-write-raw-requires
@@ -31,7 +31,7 @@ write-raw-requires c κs =
     let test = c .before .before .before .before in
     let d = test .before in
     let a = d .before .before .before .before .before .before .args in
-    let l = loanBy (a .rate) (a .base-channels) (a .header) (a .status) (a .lfe-allocation) (a .nb-steps .now) (a .base-nb-steps .now) in
+    let l = loanBy (a .reading) (a .rate) (a .base-channels) (a .header) (a .status) (a .lfe-allocation) (a .nb-steps .now) (a .base-nb-steps .now) in
     let r = writers-ready l (a .bytes .now) (a .bits) (a .raw .now) (a .lfe .now) _ (d .decide .ensures) (test .if1 .left) in
     (r .raw, r .steps, r .samples)
 
@@ -40,7 +40,7 @@ write-lfe-requires c κs =
     let test = c .before .before .before .before .before .before .before .before .before .before in
     let d = test .before in
     let a = d .before .before .before .before .before .before .args in
-    let l = loanBy (a .rate) (a .base-channels) (a .header) (a .status) (a .lfe-allocation) (a .nb-steps .now) (a .base-nb-steps .now) in
+    let l = loanBy (a .reading) (a .rate) (a .base-channels) (a .header) (a .status) (a .lfe-allocation) (a .nb-steps .now) (a .base-nb-steps .now) in
     let r = writers-ready l (a .bytes .now) (a .bits) (a .raw .now) (a .lfe .now) _ (d .decide .ensures) (test .if1 .left) in
     ((r .low, r .factor, r .lfe), r .codes)
 
@@ -60,7 +60,7 @@ returns-2 c =
     let test = first .before .before .before .before .before in
     let d = test .before in
     let a = d .before .before .before .before .before .before .args in
-    let l = loanBy (a .rate) (a .base-channels) (a .header) (a .status) (a .lfe-allocation) (a .nb-steps .now) (a .base-nb-steps .now) in
+    let l = loanBy (a .reading) (a .rate) (a .base-channels) (a .header) (a .status) (a .lfe-allocation) (a .nb-steps .now) (a .base-nb-steps .now) in
     accepted-after l (a .bytes .now) (a .bits) (a .raw .now) (a .lfe .now) _ (d .decide .ensures) (test .if1 .left) _ _ (first .write-raw .ensures) (second .write-lfe .ensures) _ (c .accepted .ensures)
 
 pub unpack-spec : {M : Type 1} → statement M

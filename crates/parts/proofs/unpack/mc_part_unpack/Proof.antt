@@ -15,7 +15,7 @@ returns : tie.Need-returns
 returns c =
     let t = c .before in
     let a = t .before .before .before .before .before .before .before .before .before .before .before .before .args in
-    let l = lentOf (a .head .now) (a .head-bits) (a .payload .now) (a .payload-bits) (a .rate) (a .base-channels) (a .lfe-allocation) (a .nb-steps .now) (a .base-nb-steps .now) in
+    let l = lentOf (a .head .now) (a .head-bits) (a .payload .now) (a .payload-bits) (a .reading) (a .rate) (a .base-channels) (a .lfe-allocation) (a .nb-steps .now) (a .base-nb-steps .now) in
     let w = buffersFrom (a .scfsi .now) (a .delays .now) (a .coefs .now) (a .scalefactors .now) (a .raw .now) (a .lfe .now) in
     after-lent l w _ (t .before .lent-fits .ensures) (t .if1 .taken) _ (c .pack-refusal .ensures)
 
@@ -35,7 +35,7 @@ unpack-under-requires : tie.Need-unpack-under-requires
 unpack-under-requires c κs =
     let t = c .before .before .before .before .before .before .before .before .before .before .before in
     let a = t .before .before .before .before .before .before .before .before .before .before .before .before .args in
-    let l = lentOf (a .head .now) (a .head-bits) (a .payload .now) (a .payload-bits) (a .rate) (a .base-channels) (a .lfe-allocation) (a .nb-steps .now) (a .base-nb-steps .now) in
+    let l = lentOf (a .head .now) (a .head-bits) (a .payload .now) (a .payload-bits) (a .reading) (a .rate) (a .base-channels) (a .lfe-allocation) (a .nb-steps .now) (a .base-nb-steps .now) in
     let w = buffersFrom (a .scfsi .now) (a .delays .now) (a .coefs .now) (a .scalefactors .now) (a .raw .now) (a .lfe .now) in
     long l w _ (t .before .lent-fits .ensures) (t .if1 .left)
 
@@ -44,7 +44,7 @@ returns-2 c =
     let h = c .before .before .before .before in
     let t = h .before in
     let a = t .before .before .before .before .before .before .before .before .before .before .before .before .args in
-    let l = lentOf (a .head .now) (a .head-bits) (a .payload .now) (a .payload-bits) (a .rate) (a .base-channels) (a .lfe-allocation) (a .nb-steps .now) (a .base-nb-steps .now) in
+    let l = lentOf (a .head .now) (a .head-bits) (a .payload .now) (a .payload-bits) (a .reading) (a .rate) (a .base-channels) (a .lfe-allocation) (a .nb-steps .now) (a .base-nb-steps .now) in
     let w = buffersFrom (a .scfsi .now) (a .delays .now) (a .coefs .now) (a .scalefactors .now) (a .raw .now) (a .lfe .now) in
     after-head l w _ (t .before .lent-fits .ensures) (t .if1 .left) (h .read-head .result) (h .read-head .ensures .0) (c .before .before .answer .given .0 .0) (c .before .before .answer .given .1) _ (c .pack-refusal2 .ensures)
 
@@ -73,7 +73,7 @@ returns-3 c =
     let h = told .before .before in
     let t = h .before in
     let a = t .before .before .before .before .before .before .before .before .before .before .before .before .args in
-    let l = lentOf (a .head .now) (a .head-bits) (a .payload .now) (a .payload-bits) (a .rate) (a .base-channels) (a .lfe-allocation) (a .nb-steps .now) (a .base-nb-steps .now) in
+    let l = lentOf (a .head .now) (a .head-bits) (a .payload .now) (a .payload-bits) (a .reading) (a .rate) (a .base-channels) (a .lfe-allocation) (a .nb-steps .now) (a .base-nb-steps .now) in
     let w = buffersFrom (a .scfsi .now) (a .delays .now) (a .coefs .now) (a .scalefactors .now) (a .raw .now) (a .lfe .now) in
     after-payload l w _ (t .before .lent-fits .ensures) (t .if1 .left) (h .read-head .result) (h .read-head .ensures .0) (told .enum-told .given .0 .0) (told .enum-told .given .1) _ (p .unpack-under .ensures)
 

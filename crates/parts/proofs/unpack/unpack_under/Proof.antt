@@ -39,7 +39,7 @@ returns c =
     let u = w .before .before .before .before .before .before .before .before .before .before in
     let p = u .before .before .before .before .before .before .before .before .before .before .before .before .before .pre in
     let a = u .before .before .before .before .before .before .before .before .before .before .before .before .before .args in
-    let l = loanBy (a .rate) (a .base-channels) (a .header) (a .status) (a .lfe-allocation) (a .nb-steps .now) (a .base-nb-steps .now) in
+    let l = loanBy (a .reading) (a .rate) (a .base-channels) (a .header) (a .status) (a .lfe-allocation) (a .nb-steps .now) (a .base-nb-steps .now) in
     left-by (u .unpack .result) (a .status .«mc_prediction») (a .scfsi .now) (a .delays .now) (a .coefs .now) (a .scalefactors .now) (a .raw .now) (a .lfe .now) _ _ _ _ _ _ (w .write-tables .ensures) _ (c .pack-tables .ensures) l refl (p .4) (p .5) (a .payload .now) (a .payload-bits) (u .unpack .ensures)
 
 pub unpack-under-spec : {M : Type 1} → statement M

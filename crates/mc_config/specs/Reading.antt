@@ -1,0 +1,16 @@
+-- The readings of the transfer guide, 1 and 2. Reading 1 is the standard's text as the Rust takes it; all that reading 2 says otherwise stands here.
+use mathlib.Core.Bool.{Bool, false, _||_, cond}
+use Prim.Native.Nat.{ℕ}
+use lib.Dec.{eqb}
+
+-- the readings that there are; else wrong loan, refusal 6
+abbrev pub readingFits : ℕ → Bool
+readingFits reading = eqb reading 1 || eqb reading 2
+
+-- by reading: 1, and 2
+abbrev pub byReading {ℓ} : {X : Type ℓ} → ℕ → X → X → X
+byReading reading one two = cond (eqb reading 2) two one
+
+-- a centre code that must stop the frame, refusal 13: none, and code 2
+abbrev pub centreStops : ℕ → ℕ → Bool
+centreStops reading centre = byReading reading false (eqb centre 2)
