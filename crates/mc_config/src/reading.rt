@@ -13,5 +13,5 @@ pub fn reading_fits(reading: u32) -> bool
 pub fn centre_stops(reading: u32, centre: u8) -> bool
     ensures { λ r. ⌜ r ≡ centreStops reading centre ⌝ }
 {
-    reading == 2 && centre == 2
+    if reading == 2 { centre == 2 } else { false }
 }

@@ -3,7 +3,7 @@ use mathlib.Core.Path.{_≡_, refl, sym, _∙_}
 use mathlib.Core.Bool.{true, false, _&&_, cond}
 use mathlib.Core.List.{List}
 use Prim.Native.Nat.{ℕ}
-use Rattle.bits.specs.Syntax.{Refusal, plain, Syntax, refuse, accepted, refused, run, bind, both, andThen}
+use Rattle.bits.specs.Syntax.{Refusal, plain, accepted, refused, run, both, andThen}
 use Rattle.bits.specs.SyntaxLaws.{run-both}
 use Rattle.mc_config.specs.Config.{configOf}
 use Rattle.mc_config.specs.Reading.{centreStops}

@@ -23,7 +23,7 @@ rateFits rate = eqb rate 48000 || (eqb rate 44100 || eqb rate 32000)
 abbrev pub stepsFit : ℕ → Bool
 stepsFit n = eqb n 0 || isClass n
 
--- reading, rate, base channel count, LFE allocation, step counts' number, and base step counts are as document 01 says
+-- reading, rate, base channel count, LFE allocation, step counts' number, and base step counts are as documents 01 and 02 say
 unfoldable pub loanFits : ℕ → ℕ → ℕ → ℕ → List ℕ → List ℕ → Bool
 loanFits reading rate baseChannels lfe steps baseSteps =
     readingFits reading

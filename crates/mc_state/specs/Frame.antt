@@ -59,7 +59,7 @@ valuesLong baseChannels rawLeft rawRight scaledLeft scaledRight =
 abbrev pub roomFits : ℕ → ℕ → ℕ → ℕ → Bool
 roomFits raw work output lfe = eqb raw 3456 && (eqb work 3456 && (eqb output 5760 && eqb lfe 12))
 
--- all that is lent, the buffers by their lengths, is as document 01 says
+-- all that is lent, the buffers by their lengths, is as documents 01 and 02 say
 unfoldable pub lentBy : Lent → ℕ → ℕ → ℕ → ℕ → ℕ → Bool
 lentBy l raw work output lfe layoutLen =
     stringFits (l .head) (l .headBits)

@@ -75,7 +75,7 @@ abbrev pub roomFits : ℕ → ℕ → ℕ → ℕ → ℕ → ℕ → Bool
 roomFits scfsi delays coefs scalefactors raw lfe =
     eqb scfsi 96 && (eqb delays 48 && (eqb coefs 144 && (eqb scalefactors 288 && (eqb raw 3456 && eqb lfe 12))))
 
--- all that is lent, the buffers by their lengths, is as document 01 says
+-- all that is lent, the buffers by their lengths, is as documents 01 and 02 say
 unfoldable pub lentBy : Lent → ℕ → ℕ → ℕ → ℕ → ℕ → ℕ → Bool
 lentBy l scfsi delays coefs scalefactors raw lfe =
     stringFits (l .head) (l .headBits)

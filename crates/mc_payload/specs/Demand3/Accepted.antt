@@ -44,7 +44,7 @@ passed false o x a u e = let z : _≡_ {A = ℕ} 0 1 = cc in absurd (omega arith
 
 -- ---- an accepted payload
 
--- reading, rate, base channel count, LFE allocation and step counts are as document 01 says
+-- reading, rate, base channel count, LFE allocation and step counts are as documents 01 and 02 say
 abbrev pub Lent : Loan → Type 0
 Lent l = loanFits (l .reading) (l .rate) (l .baseChannels) (l .lfe) (l .steps) (l .baseSteps) ≡ true
 
