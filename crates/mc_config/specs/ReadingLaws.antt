@@ -1,9 +1,10 @@
 -- Laws of the readings: which centre codes stop a frame.
 use mathlib.Core.Path.{_≡_, refl}
-use mathlib.Core.Bool.{Bool, true, false, cond}
+use mathlib.Core.Bool.{Bool, true, false}
 use Prim.Native.Nat.{ℕ}
 use lib.Dec.{eqb}
 use borrow.Author.Tests.{ne-eqb}
+use Rattle.mc_config.specs.CaseLaws.{cond-all}
 use Rattle.mc_config.specs.Reading.{centreStops}
 
 -- under reading 1 none does
@@ -16,8 +17,4 @@ second-stops = refl
 
 -- no other code does, whatever the reading
 pub others-known : (reading centre : ℕ) → (centre ≡ 2 → ⊥) → centreStops reading centre ≡ false
-others-known reading centre n = rw (ne-eqb centre 2 n) (go (eqb reading 2))
-  where
-    go : (t : Bool) → cond t false false ≡ false
-    go true = refl
-    go false = refl
+others-known reading centre n = rw (ne-eqb centre 2 n) (cond-all (λ (stops : Bool). stops ≡ false) (eqb reading 2) refl refl)

@@ -27,6 +27,7 @@ pub record Found (l : Lent) (s : McSettings) (c : Codes) (headUsed used : ℕ) :
   pub settings : s ≡ settingsFor l header status
   pub payload : settledOf s (l .payload) (l .payloadBits) ≡ accepted c used
 
+-- n is one of the numbers listed
 unfoldable pub among : List ℕ → ℕ → Bool
 among [] n = false
 among (m ∷ more) n = eqb n m || among more n

@@ -1,6 +1,6 @@
 -- What a reading does to a whole frame call: a number that is none is refused, and so is a centre code that has no meaning under the reading.
-use mathlib.Core.Path.{_≡_, refl, _∙_}
-use mathlib.Core.Bool.{Bool, true, false, _&&_}
+use mathlib.Core.Path.{_≡_, _∙_}
+use mathlib.Core.Bool.{true, false, and-false}
 use Prim.Native.Nat.{ℕ}
 use Rattle.bits.specs.Syntax.{Refusal, plain, accepted, refused, run}
 use Rattle.mc_config.specs.Reading.{readingFits, centreStops}
@@ -15,19 +15,14 @@ use Rattle.mc_state.specs.declared.McDecodeState.{McDecodeState}
 use Rattle.mc_state.specs.Frame.{Lent, Buffers, After, lentBy, lentFits, valuesFit, verdictHead, verdictOf, answerOf, buffersOf, stateOf, frameOf}
 
 -- refused so, and nothing is changed
-abbrev pub left : Refusal → Buffers → McDecodeState → After
-left x w st = record { answer = refused x; buffers = w; state = st }
+abbrev pub stoppedBy : Refusal → Buffers → McDecodeState → After
+stoppedBy x w st = record { answer = refused x; buffers = w; state = st }
 
 module _ (l : Lent) (w : Buffers) (st : McDecodeState) where
   -- another number than 1 or 2
-  pub wrong-reading : readingFits (l .reading) ≡ false → frameOf l w st ≡ left (plain 6) w st
+  pub wrong-reading : readingFits (l .reading) ≡ false → frameOf l w st ≡ stoppedBy (plain 6) w st
   unfolding frameOf verdictOf answerOf buffersOf stateOf lentBy loanFits
-  wrong-reading e = rw (e, third (stringFits (l .head) (l .headBits)) (stringFits (l .payload) (l .payloadBits)))
-    where
-      third : (a b : Bool) → (a && (b && false)) ≡ false
-      third true true = refl
-      third true false = refl
-      third false b = refl
+  wrong-reading e = rw (e, and-false (stringFits (l .payload) (l .payloadBits)), and-false (stringFits (l .head) (l .headBits)))
 
   module _ (fits : lentFits l w st ≡ true) (values : valuesFit (l .base) (st .«pred_hist») ≡ true) where
     -- what may be lent to the frame call may be lent to the head
@@ -43,12 +38,12 @@ module _ (l : Lent) (w : Buffers) (st : McDecodeState) where
         rw (reading .0, head .0, base .0)
 
     -- a head that is refused
-    refused-head : (x : Refusal) → headOf (l .reading) (l .head) (l .headBits) (l .baseChannels) ≡ refused x → frameOf l w st ≡ left x w st
+    refused-head : (x : Refusal) → headOf (l .reading) (l .head) (l .headBits) (l .baseChannels) ≡ refused x → frameOf l w st ≡ stoppedBy x w st
     unfolding frameOf verdictOf verdictHead answerOf buffersOf stateOf
     refused-head x e = rw (fits, values, e)
 
     -- a header that is cut, before its centre code is looked at
-    pub header-stops : (x : Refusal) → run mcHeader (l .head) (l .headBits) 0 ≡ refused x → frameOf l w st ≡ left x w st
+    pub header-stops : (x : Refusal) → run mcHeader (l .head) (l .headBits) 0 ≡ refused x → frameOf l w st ≡ stoppedBy x w st
     header-stops x e =
         refused-head x
         (lent-fits (l .reading) (l .head) (l .headBits) (l .baseChannels) head-lent
@@ -56,7 +51,7 @@ module _ (l : Lent) (w : Buffers) (st : McDecodeState) where
 
     -- centre code 2 under reading 2, whatever follows the header
     pub centre-stops : (h : McHeader) (u : ℕ) → run mcHeader (l .head) (l .headBits) 0 ≡ accepted h u → centreStops (l .reading) (h .centre) ≡ true
-        → frameOf l w st ≡ left (plain 13) w st
+        → frameOf l w st ≡ stoppedBy (plain 13) w st
     centre-stops h u e t =
         refused-head (plain 13)
         (lent-fits (l .reading) (l .head) (l .headBits) (l .baseChannels) head-lent

@@ -1,6 +1,6 @@
 -- Under `longestLoan`: it may be lent, and the widths of a payload's fields come to 55,134 bits.
 use mathlib.Core.Path.{_≡_, refl, sym, ap, _∙_}
-use mathlib.Core.Bool.{Bool, true, false, _&&_, cond}
+use mathlib.Core.Bool.{Bool, true, false, cond, and-true}
 use Prim.Native.Nat.{ℕ, zero, suc, _+_, _*_, _/_, _%_, _<_}
 use native.Mathlib.Decide.{decLt}
 use native.Mathlib.Omega.{arith}
@@ -30,10 +30,6 @@ use Rattle.mc_payload.specs.Longest.Sums.{ninety, ninety-scfsi, ninety-f
 cond-same : (t : Bool) (n : ℕ) → cond t (cond t n 0) 0 ≡ cond t n 0
 cond-same true n = refl
 cond-same false n = refl
-
-and-true : (t : Bool) → (t && true) ≡ t
-and-true true = refl
-and-true false = refl
 
 all-sent : (m : ℕ) → getD (sourcesOf 32 0) m T ≡ T
 unfolding sourcesOf sources3
