@@ -46,7 +46,9 @@ uint32_t mc_fresh_state(McDecodeState *state);
  *   payload        from the scfsi codes on; extension bytes are already joined
  *   head_bits, payload_bits  at most eight times the bytes; bits after the used ones do not matter
  *   reading        of the transfer guide, 1 or 2. Reading 1 is the standard's text, with centre code 2
- *                  as no centre; under reading 2 a header with centre code 2 is refusal 13
+ *                  as no centre; under reading 2 a header with centre code 2 is refusal 13, and over
+ *                  one base channel centre code 3 bars no place, where reading 1 has no second left
+ *                  from subband 12 on
  *   rate           32000, 44100 or 48000
  *   base_channels  1 or 2
  *   raw_*          requantised base values, from -4 to 4

@@ -1,6 +1,6 @@
 -- What each frame lends. Definitions only.
 use mathlib.Core.List.{List, [], _∷_}
-use Prim.Native.Nat.{ℕ}
+use Prim.Native.Nat.{ℕ, _+_, _*_, _/_}
 use lib.Ieee.{Float, binary64, ofBits, neg}
 use lib.ListN.{replicate}
 use Rattle.fill.specs.Tab.{tab}
@@ -73,11 +73,12 @@ lfeFrame code =
 abbrev pub longestFrame : ℕ → ℕ → Loan
 longestFrame headBits payloadBits = lent 1 longestHead headBits noPayload payloadBits 2 quarter 15 (firstSteps 3 30 65535)
 
--- mono base, phantom centre, second stereo: 7 steps in the first subbands, 30 bytes of 0 and then samples whose bits are all 1
-abbrev pub phantomFrame : ℕ → Loan
-phantomFrame subbands =
+-- mono base, phantom centre, second stereo, under a reading: 7 steps in the first subbands, to each 20 bits of scfsi and scalefactors, all 0,
+-- and 108 bits of samples, all 1 from the first whole byte on
+abbrev pub phantomFrame : ℕ → ℕ → Loan
+phantomFrame subbands reading =
     let head = plainHead 3 3 0 0 0 in
-    lent 1 head (head .at) (tab (onesAt 30 192) 6892) 1536 1 quarter 0 (firstSteps 1 subbands 7)
+    lent reading head (head .at) (tab (onesAt ((20 * subbands + 7) / 8) (16 * subbands)) 6892) (128 * subbands) 1 quarter 0 (firstSteps 1 subbands 7)
 
 -- mono base, no centre, stereo surround
 abbrev pub monoSurround : Loan

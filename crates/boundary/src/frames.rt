@@ -83,17 +83,19 @@ pub fn longest(head_bits: usize, payload_bits: usize) -> Loan
     loan
 }
 
-// Mono base, phantom centre, second stereo; 7 steps in the first subbands of second left. For 12 of them the payload is 12 scfsi codes and
-// 36 scalefactors, all 0, in 30 bytes, and then samples whose bits are all 1.
-pub fn phantom(subbands: usize) -> Loan
-    ensures { λ r. ⌜ r ≡ phantomFrame subbands ⌝ }
+// Mono base, phantom centre, second stereo, under a reading; 7 steps in the first subbands of second left. Each has an scfsi code and three
+// scalefactors, 20 bits that are 0, and samples of 108 bits, which are 1 from the first whole byte on.
+pub fn phantom(subbands: u8, reading: u32) -> Loan
+    ensures { λ r. ⌜ r ≡ phantomFrame subbands reading ⌝ }
 {
-    let steps = first_steps(1, subbands, 7);
-    let payload = payload_of_ones(30, 192);
+    let n = subbands as usize;
+    let steps = first_steps(1, n, 7);
+    let payload = payload_of_ones((20 * n + 7) / 8, 16 * n);
     let mut loan = Loan::new(plain_head(3, 3, 0, 0, 0));
+    loan.reading = reading;
     loan.base_channels = 1;
     loan.payload = payload;
-    loan.payload_bits = 8 * 192;
+    loan.payload_bits = 128 * n;
     loan.steps = steps;
     loan
 }

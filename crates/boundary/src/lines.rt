@@ -49,13 +49,13 @@ pub fn layout_lines() {
     line(b"then 3/2", three_two(0.75), second);
 }
 
-fn phantom_line() {
-    let loan = phantom(12);
+// The line of an accepted frame, with what second left holds by subband.
+fn second_left_line(name: &[u8], loan: Loan) {
     let state = McDecodeState::new();
     let found = run_frame(loan, state);
     let output = found.output;
     let base = ramp(loan.left);
-    say(b"mono base, phantom centre, second stereo");
+    say(name);
     say_found(loan, state, found);
     let others = holds_until(&output, &base, 0, 0);
     say(b"; second left transmitted below subband ");
@@ -86,10 +86,10 @@ fn surround_line() {
 }
 
 pub fn mono_lines() {
-    phantom_line();
+    second_left_line(b"mono base, phantom centre, second stereo", phantom(12, 1));
     line(
         b"the same with a step count in subband 12",
-        phantom(13),
+        phantom(13, 1),
         McDecodeState::new(),
     );
     surround_line();
@@ -140,4 +140,29 @@ pub fn reading_lines() {
     line(b"no centre, reading 2", centre_code(0, 2, 0.5), state);
     line(b"reading 0", centre_code(0, 0, 0.5), state);
     line(b"reading 3", centre_code(0, 3, 0.5), state);
+}
+
+// A phantom centre under reading 2: over one base channel it bars nothing below the subband limit, over two it bars as under reading 1.
+pub fn phantom_lines() {
+    let fresh = McDecodeState::new();
+    second_left_line(
+        b"mono base, phantom centre, second stereo, step count in subband 12, reading 2",
+        phantom(13, 2),
+    );
+    second_left_line(
+        b"step counts up to the subband limit, reading 2",
+        phantom(30, 2),
+    );
+    line(
+        b"step count at the subband limit, reading 2",
+        phantom(31, 2),
+        fresh,
+    );
+    let mut stereo = barred();
+    stereo.reading = 2;
+    line(
+        b"step count in a barred subband over two base channels, reading 2",
+        stereo,
+        fresh,
+    );
 }

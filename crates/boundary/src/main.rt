@@ -1,5 +1,5 @@
-// Runs the boundary frames of document 01 that are executed, each of the nine refusals, and centre code 2 under both readings, and writes a
-// line on each: what the frame call answered, and what became of the buffers and of the state.
+// Runs the boundary frames of document 01 that are executed, each of the nine refusals, and centre code 2 and the phantom centre under both
+// readings, and writes a line on each: what the frame call answered, and what became of the buffers and of the state.
 mod frames;
 mod heads;
 mod lines;
@@ -7,6 +7,7 @@ mod print;
 
 use lines::layout_lines;
 use lines::mono_lines;
+use lines::phantom_lines;
 use lines::reading_lines;
 use lines::refusal_lines;
 use lines::string_lines;
@@ -17,4 +18,5 @@ fn main() {
     mono_lines();
     refusal_lines();
     reading_lines();
+    phantom_lines();
 }

@@ -1,5 +1,5 @@
--- Laws of `tab` and `filled`: lengths, elements, and one element more.
-use mathlib.Core.Path.{_≡_, refl, sym, ap, _∙_}
+-- Laws of `tab` and `filled`: lengths, elements, one element more, and tables with the same elements.
+use mathlib.Core.Path.{_≡_, refl, sym, ap, ap₂, _∙_}
 use mathlib.Core.List.{List, [], _∷_, _++_, append-nil}
 use mathlib.Core.Logic.{⊎-elim}
 use Prim.Native.Nat.{ℕ, zero, suc, _+_, _-_, _≤_, _<_}
@@ -30,6 +30,12 @@ module _ {A : Type 0} where
 
   pub length-filled : (f : ℕ → A) (n : ℕ) (d : List A) → n ≤ length d → length (filled f n d) ≡ length d
   length-filled f n d h = length-append (tab f n) (drop n d) ∙ (rw (length-tab f n, length-drop n d) (omega arith))
+
+-- tables with the same elements are the same
+pub tab-same : {A : Type 0} {f g : ℕ → A} (n : ℕ) → ((k : ℕ) → k < n → f k ≡ g k) → tab f n ≡ tab g n
+unfolding tab
+tab-same zero e = refl
+tab-same (suc n) e = ap₂ (λ t x. t ++ (x ∷ [])) (tab-same n (λ k h. e k (omega arith))) (e n (omega arith))
 
 -- where the whole list is filled over, nothing of it is left
 pub all-filled : {A : Type 0} (f : ℕ → A) (n : ℕ) (d : List A) → length d ≡ n → filled f n d ≡ tab f n

@@ -14,6 +14,7 @@ pub use layout::RIGHT_SURROUND;
 pub use layout::SECOND_LEFT;
 pub use layout::SECOND_RIGHT;
 pub use reading::centre_stops;
+pub use reading::phantom_of;
 pub use reading::reading_fits;
 
 // The fields of mc_header() as read: centre code 2, which the standard leaves undefined, is kept.

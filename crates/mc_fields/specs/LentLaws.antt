@@ -1,5 +1,5 @@
 -- Laws of a lent head: where the loan fits it is what the program finds, and only then is it accepted.
-use mathlib.Core.Path.{_≡_}
+use mathlib.Core.Path.{_≡_, refl}
 use mathlib.Core.Bool.{Bool, true, false, cond}
 use mathlib.Core.List.{List}
 use Prim.Native.Nat.{ℕ, _≤_}
@@ -28,6 +28,14 @@ module _ (reading : ℕ) (bytes : List ℕ) (bits baseChannels : ℕ) where
       where
         go : (t : Bool) → cond t (run (head reading baseChannels) bytes bits 0) (refused (plain 6)) ≡ accepted r used → run (head reading baseChannels) bytes bits 0 ≡ accepted r used
         go true q = q
+        go false q = let z : _≡_ {A = ℕ} 0 1 = cc in absurd (omega arith)
+
+    pub lent-only : headFits reading bytes bits baseChannels ≡ true
+    unfolding headOf
+    lent-only = go (headFits reading bytes bits baseChannels) e
+      where
+        go : (t : Bool) → cond t (run (head reading baseChannels) bytes bits 0) (refused (plain 6)) ≡ accepted r used → t ≡ true
+        go true q = refl
         go false q = let z : _≡_ {A = ℕ} 0 1 = cc in absurd (omega arith)
 
     pub lent-used : (used ≤ bits) × (used ≤ 232)

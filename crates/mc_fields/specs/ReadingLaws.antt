@@ -7,8 +7,9 @@ use Rattle.bits.specs.Syntax.{Refusal, plain, accepted, refused, run, both, and
 use Rattle.bits.specs.SyntaxLaws.{run-both}
 use Rattle.mc_config.specs.Config.{configOf}
 use Rattle.mc_config.specs.Reading.{centreStops}
+use Rattle.mc_config.specs.ReadingLaws.{withoutPhantom}
 use Rattle.mc_config.specs.declared.McHeader.{McHeader}
-use Rattle.mc_fields.specs.Head.{mcHeader, mcErrorCheck, mcCompositeStatusInfo, head}
+use Rattle.mc_fields.specs.Head.{mcHeader, mcErrorCheck, mcCompositeStatusInfo, afterHeader, head}
 use Rattle.mc_fields.specs.Lent.{stringFits, baseFits, headFits, headOf}
 
 -- ---- reading 1, by computation
@@ -40,3 +41,8 @@ module _ (reading baseChannels : ℕ) (bytes : List ℕ) (bits p : ℕ) where
     pub centre-known : centreStops reading (h .centre) ≡ false → run (head reading baseChannels) bytes bits p ≡ run (head 1 baseChannels) bytes bits p
     unfolding head andThen
     centre-known t = run-both mcHeader _ bytes bits p ∙ rw (e, t) (sym (run-both mcHeader _ bytes bits p ∙ rw e))
+
+-- over one base channel centre code 1 in place of 3 changes nothing that follows the header
+pub after-without : (h : McHeader) → afterHeader (withoutPhantom h) 1 ≡ afterHeader h 1
+unfolding mcCompositeStatusInfo configOf
+after-without h = refl

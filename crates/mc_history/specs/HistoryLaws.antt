@@ -7,7 +7,7 @@ use lib.Dec.{eqb}
 use lib.Ieee.{Float, nan}
 use lib.ListN.{length, getD}
 use Rattle.fill.specs.Tab.{tab}
-use Rattle.fill.specs.TabLaws.{all-filled}
+use Rattle.fill.specs.TabLaws.{all-filled, tab-same}
 use Rattle.fill.specs.ByTurn.{ByTurn, turn-ends}
 use Rattle.mc_config.specs.CaseLaws.{cond-all}
 use Rattle.mc_payload.specs.declared.McSettings.{McSettings}
@@ -18,7 +18,6 @@ use Rattle.mc_history.specs.HistoryBy.{lineBy, historyBy}
 use Rattle.mc_predict.specs.Laws.Chosen.{chosen-base}
 use Rattle.mc_scale.specs.Code.Strided.{strided}
 use Rattle.mc_scale.specs.Laws.Strided.{length-strided, getD-strided, strided-other}
-use Rattle.mc_scale.specs.Laws.TabSame.{tab-same}
 use Rattle.mc_scale.specs.Laws.TurnBlock.{turn-block}
 
 -- both base channels are of one length, and so is the one that is chosen

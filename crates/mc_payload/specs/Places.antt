@@ -9,6 +9,7 @@ use Rattle.mc_crosstalk.specs.Crosstalk
 use Rattle.mc_config.specs.declared.McConfig.{McConfig}
 use Rattle.mc_config.specs.Config.{configOf, pairOf, mainOf}
 use Rattle.mc_config.specs.Groups.{sbgrOf}
+use Rattle.mc_config.specs.Reading.{phantomOf}
 use Rattle.mc_crosstalk.specs.Crosstalk.{T, B}
 use Rattle.mc_roles.specs.Roles.{baseOf}
 use Rattle.mc_fields.specs.Head.{modeAt, secondAt}
@@ -24,9 +25,13 @@ pair s = pairOf (config s)
 abbrev pub msblimit : ℕ → ℕ
 msblimit rate = cond (eqb rate 48000) 27 30
 
--- phantom centre: the first channel has no subbands from 12 on
+-- a phantom centre has no subbands from here on (2.5.2.13)
+abbrev pub phantomLimit : ℕ
+phantomLimit = 12
+
+-- that limit bars the first channel of the extension, where the reading has it do so
 abbrev pub limited : McSettings → ℕ → ℕ → Bool
-limited s m sb = config s .«phantom_centre» && (eqb m 0 && leb 12 sb)
+limited s m sb = phantomOf (s .reading) (config s) && (eqb m 0 && leb phantomLimit sb)
 
 -- channel m is there in subband sb; the phantom centre's bar stands before crosstalk
 unfoldable pub carried : McSettings → ℕ → ℕ → Bool

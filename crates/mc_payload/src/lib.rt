@@ -1,4 +1,4 @@
-// What a payload is read under, and the subband limit. The definition of the payload (ISO/IEC 13818-3, 2.5.1.17), demand 3 and the longest
+// What a payload is read under, and the subband limits. The definition of the payload (ISO/IEC 13818-3, 2.5.1.17), demand 3 and the longest
 // payload stand in specs/.
 ghost use mathlib.Core.Path.{_≡_};
 ghost use Rattle.mc_payload.specs.Places.{msblimit};
@@ -18,6 +18,9 @@ pub struct McSettings {
     // base step counts, likewise
     pub base_nb_steps: [u32; 64],
 }
+
+// A phantom centre has no subbands from here on (2.5.2.13).
+pub const PHANTOM_LIMIT: usize = 12;
 
 // Subbands from here on carry nothing (2.5.2.17).
 pub fn msblimit(rate: u32) -> usize

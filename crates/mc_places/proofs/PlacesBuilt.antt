@@ -23,15 +23,16 @@ use Rattle.mc_config.specs.GroupsLaws.{sbgr-below}
 use Rattle.mc_roles.specs.Roles.{baseOf}
 use Rattle.mc_crosstalk.specs.declared.crosstalk.Sources.{Sources}
 use Rattle.mc_config.specs.declared.McConfig.{McConfig}
+use Rattle.mc_payload.specs.Places.{phantomLimit}
 use Rattle.mc_places.specs.PlacesBy.{carriedBy, sourceBy, groupSources, groupBases, groupAt, stepsBy, ownBy}
 use Rattle.mc_places.specs.PlacesLaws.{sources-below, bases-below}
 
-below-not : (sb : ℕ) → ltb sb 12 ≡ not (leb 12 sb)
-below-not sb = go (leb 12 sb) refl
+below-not : (sb limit : ℕ) → ltb sb limit ≡ not (leb limit sb)
+below-not sb limit = go (leb limit sb) refl
   where
-    go : (t : Bool) → leb 12 sb ≡ t → ltb sb 12 ≡ not (leb 12 sb)
-    go true e = rw (e, le-ltb sb 12 (leb-true 12 sb e))
-    go false e = rw (e, lt-ltb sb 12 (leb-false 12 sb e))
+    go : (t : Bool) → leb limit sb ≡ t → ltb sb limit ≡ not (leb limit sb)
+    go true e = rw (e, le-ltb sb limit (leb-true limit sb e))
+    go false e = rw (e, lt-ltb sb limit (leb-false limit sb e))
 
 module _ (nmch : ℕ) (phantom : Bool) (limit m sb : ℕ) where
   pub carried-beyond : nmch ≤ m → false ≡ carriedBy nmch phantom limit m sb
@@ -53,9 +54,9 @@ module _ (nmch : ℕ) (phantom : Bool) (limit m sb : ℕ) where
         unfolding carriedBy
         carried-other z = rw (lt-ltb m nmch h, lt-ltb sb limit k, p, ne-eqb m 0 z)
 
-        pub carried-first : m ≡ 0 → ltb sb 12 ≡ carriedBy nmch phantom limit m sb
+        pub carried-first : m ≡ 0 → ltb sb phantomLimit ≡ carriedBy nmch phantom limit m sb
         unfolding carriedBy
-        carried-first z = rw (lt-ltb m nmch h, lt-ltb sb limit k, p, eq-eqb m 0 z) (below-not sb)
+        carried-first z = rw (lt-ltb m nmch h, lt-ltb sb limit k, p, eq-eqb m 0 z) (below-not sb phantomLimit)
 
 module _ (pair main mode second m : ℕ) (e : main ≡ mainOf pair) where
   pub main-fits : Fits w8 main

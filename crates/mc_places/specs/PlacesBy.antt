@@ -13,15 +13,15 @@ use Rattle.mc_roles.specs.Roles.{baseOf}
 use Rattle.mc_fields.specs.Head.{modeAt, secondAt}
 use Rattle.mc_payload.specs.declared.McSettings.{McSettings}
 use Rattle.mc_places.specs.declared.places.Places.{Places}
-use Rattle.mc_payload.specs.Places.{place, stepsOf, ownOf, sourcesOf, basesOf}
+use Rattle.mc_payload.specs.Places.{phantomLimit, place, stepsOf, ownOf, sourcesOf, basesOf}
 
 -- all four tables
 unfoldable pub placesOf : McSettings → Places
 placesOf s = record { steps = stepsOf s; own = ownOf s; source = sourcesOf s; base = basesOf s }
 
--- channel m in subband sb, by the number of channels, the phantom centre and the subband limit
+-- channel m in subband sb, by the number of channels, whether a phantom centre limits, and the subband limit
 unfoldable pub carriedBy : ℕ → Bool → ℕ → ℕ → ℕ → Bool
-carriedBy nmch phantom limit m sb = ltb m nmch && (ltb sb limit && not (phantom && (eqb m 0 && leb 12 sb)))
+carriedBy nmch phantom limit m sb = ltb m nmch && (ltb sb limit && not (phantom && (eqb m 0 && leb phantomLimit sb)))
 
 -- the source of channel m by the crosstalk code and the second stereo bit of a group
 unfoldable pub sourceBy : ℕ → ℕ → ℕ → ℕ → ℕ

@@ -1,16 +1,17 @@
 -- The tables of places as the code builds them are those of the definition.
-use mathlib.Core.Path.{_≡_, refl, ap₂, _∙_}
+use mathlib.Core.Path.{_≡_, refl, _∙_}
 use mathlib.Core.Bool.{Bool, _&&_}
-use mathlib.Core.List.{List, [], _∷_, _++_}
-use Prim.Native.Nat.{ℕ, zero, suc, _+_, _*_, _/_, _%_, _<_}
+use mathlib.Core.List.{List}
+use Prim.Native.Nat.{ℕ, _+_, _*_, _/_, _%_, _<_}
 use native.Mathlib.Omega.{arith}
 use lib.Dec.{eqb, ltb, lit<}
 use lib.ListN.{getD}
 use Rattle.fill.specs.Tab.{tab}
-use Rattle.fill.specs.TabLaws.{getD-tab}
+use Rattle.fill.specs.TabLaws.{getD-tab, tab-same}
 use Rattle.mc_config.specs.Config.{mainOf, pairOf, configOf}
 use Rattle.mc_config.specs.ConfigLaws.{main-most}
 use Rattle.mc_config.specs.CaseLaws.{cond-all}
+use Rattle.mc_config.specs.Reading.{phantomOf}
 use Rattle.mc_crosstalk.specs.CrosstalkLaws.{source-below}
 use Rattle.mc_config.specs.Groups.{sbgrOf}
 use Rattle.mc_config.specs.GroupsLaws.{sbgr-below}
@@ -22,12 +23,6 @@ use Rattle.mc_payload.specs.declared.McSettings.{McSettings}
 use Rattle.mc_places.specs.declared.places.Places.{Places}
 use Rattle.mc_payload.specs.Places.{config, pair, msblimit, carried, sourceAt, transmitted, baseAt, stepsAt, ownAt, place, stepsOf, ownOf, sourcesOf, basesOf}
 use Rattle.mc_places.specs.PlacesBy.{placesOf, carriedBy, sourceBy, groupSources, groupBases, groupAt, stepsBy, ownBy, placesBy}
-
--- tables with the same entries
-pub tab-same : {A : Type 0} (f g : ℕ → A) (n : ℕ) → ((k : ℕ) → k < n → f k ≡ g k) → tab f n ≡ tab g n
-unfolding tab
-tab-same f g zero h = refl
-tab-same f g (suc n) h = ap₂ (λ t x. t ++ (x ∷ [])) (tab-same f g n (λ k l. h k (omega arith))) (h n (omega arith))
 
 -- ---- the tables by group
 
@@ -60,7 +55,7 @@ module _ (s : McSettings) (m sb : ℕ) (h : m < 3) where
   unfolding groupBases baseAt
   base-entry = group-entry (λ g m. baseOf (pair s) (getD (s .status .«tc_allocation») g 0) m (s .status .«dyn_cross_lr») (s .«base_channels»)) m sb h
 
-  carried-entry : carriedBy (config s .nmch) (config s .«phantom_centre») (msblimit (s .rate)) m sb ≡ carried s m sb
+  carried-entry : carriedBy (config s .nmch) (phantomOf (s .reading) (config s)) (msblimit (s .rate)) m sb ≡ carried s m sb
   unfolding carriedBy carried
   carried-entry = refl
 
@@ -82,7 +77,7 @@ module _ (s : McSettings) where
   bases = groupBases (pair s) (s .status .«tc_allocation») (s .status .«dyn_cross_lr») (s .«base_channels»)
 
   abbrev there : ℕ → ℕ → Bool
-  there m sb = carriedBy (config s .nmch) (config s .«phantom_centre») (msblimit (s .rate)) m sb
+  there m sb = carriedBy (config s .nmch) (phantomOf (s .reading) (config s)) (msblimit (s .rate)) m sb
 
   abbrev builtSteps : ℕ → ℕ → ℕ
   builtSteps m sb = stepsBy (s .«nb_steps») (s .«base_nb_steps») (there m sb) (groupAt sources m sb) (groupAt bases m sb) m sb
@@ -97,9 +92,9 @@ module _ (s : McSettings) where
   built-own m sb h = rw (carried-entry s m sb h, source-entry s m sb h) (own-entry s m sb h)
 
   by-place : (f g : ℕ → ℕ → ℕ) → ((m sb : ℕ) → m < 3 → f m sb ≡ g m sb) → tab (place f) 96 ≡ tab (place g) 96
-  by-place f g e = tab-same (place f) (place g) 96 (λ i h. e (i % 3) (i / 3) (omega arith))
+  by-place f g e = tab-same 96 (λ i h. e (i % 3) (i / 3) (omega arith))
 
-  places-built : placesBy (config s .nmch) (config s .«phantom_centre») (msblimit (s .rate)) sources bases (s .«nb_steps») (s .«base_nb_steps») ≡ placesOf s
+  places-built : placesBy (config s .nmch) (phantomOf (s .reading) (config s)) (msblimit (s .rate)) sources bases (s .«nb_steps») (s .«base_nb_steps») ≡ placesOf s
   unfolding placesBy placesOf stepsOf ownOf sourcesOf basesOf
   places-built =
       cc (
@@ -109,11 +104,11 @@ module _ (s : McSettings) where
         by-place (groupAt bases) (baseAt s) (base-entry s),
       )
 
-  pub places-whole : (c : McConfig) (p limit : ℕ) (from copied : List ℕ) (r : Places)
-      → c ≡ configOf (s .header) (s .«base_channels») → p ≡ pairOf c
+  pub places-whole : (c : McConfig) (phantom : Bool) (p limit : ℕ) (from copied : List ℕ) (r : Places)
+      → c ≡ configOf (s .header) (s .«base_channels») → phantom ≡ phantomOf (s .reading) c → p ≡ pairOf c
       → from ≡ groupSources p (s .status .«dyn_cross»)
       → copied ≡ groupBases p (s .status .«tc_allocation») (s .status .«dyn_cross_lr») (s .«base_channels»)
       → limit ≡ msblimit (s .rate)
-      → r ≡ placesBy (c .nmch) (c .«phantom_centre») limit from copied (s .«nb_steps») (s .«base_nb_steps»)
+      → r ≡ placesBy (c .nmch) phantom limit from copied (s .«nb_steps») (s .«base_nb_steps»)
       → r ≡ placesOf s
-  places-whole c p limit from copied r ec ep es eb el er = rw (er, el, eb, es, ep, ec) places-built
+  places-whole c phantom p limit from copied r ec eh ep es eb el er = rw (er, el, eb, es, ep, eh, ec) places-built

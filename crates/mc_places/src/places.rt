@@ -8,6 +8,7 @@ use mc_config::McConfig;
 use mc_crosstalk::FROM_BASE;
 use mc_crosstalk::TRANSMITTED;
 use mc_payload::McSettings;
+use mc_payload::PHANTOM_LIMIT;
 use mc_payload::msblimit;
 
 // By place, which is 3 * subband + channel.
@@ -20,7 +21,7 @@ pub struct Places {
     pub base: [u8; 96],
 }
 
-// Whether channel m is there in subband sb; a phantom centre bars the first channel from subband 12 on.
+// Whether channel m is there in subband sb; a phantom centre that limits bars the first channel from its limit on.
 fn carried(nmch: usize, phantom: bool, limit: usize, m: usize, sb: usize) -> bool
     ensures { λ r. ⌜ r ≡ carriedBy nmch phantom limit m sb ⌝ }
 {
@@ -36,7 +37,7 @@ fn carried(nmch: usize, phantom: bool, limit: usize, m: usize, sb: usize) -> boo
     if m != 0 {
         return true;
     }
-    sb < 12
+    sb < PHANTOM_LIMIT
 }
 
 // The source of channel m by the crosstalk code and the second stereo bit of a group.
@@ -172,7 +173,7 @@ pub fn places_of(s: McSettings) -> Places
     );
     by_place(
         config.nmch,
-        config.phantom_centre,
+        mc_config::phantom_of(s.reading, config),
         msblimit(s.rate),
         &sources,
         &bases,

@@ -1,5 +1,4 @@
 -- Laws of the definitions, and that the code's are those that scaling promises.
-pub mod TabSame
 pub mod TurnBlock
 pub mod Strided
 pub mod Column

@@ -1,6 +1,7 @@
 pub mod Frame
 pub mod Answer
 pub mod Demand1
+pub mod AlikeLaws
 pub mod ReadingLaws
 pub mod Long
 pub mod PackLaws

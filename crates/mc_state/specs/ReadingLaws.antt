@@ -1,18 +1,25 @@
--- What a reading does to a whole frame call: a number that is none is refused, and so is a centre code that has no meaning under the reading.
-use mathlib.Core.Path.{_≡_, _∙_}
-use mathlib.Core.Bool.{true, false, and-false}
+-- What a reading does to a whole frame call: a number that is none is refused, and so is a centre code that has no meaning under the reading;
+-- any other frame is one of reading 1, over one base channel that with centre code 1 in place of 3.
+use mathlib.Core.Path.{_≡_, refl, _∙_}
+use mathlib.Core.Bool.{Bool, true, false, cond, and-false}
+use mathlib.Core.List.{List}
 use Prim.Native.Nat.{ℕ}
-use Rattle.bits.specs.Syntax.{Refusal, plain, accepted, refused, run}
+use Rattle.bits.specs.Syntax.{Refusal, plain, Outcome, accepted, refused, run}
 use Rattle.mc_config.specs.Reading.{readingFits, centreStops}
+use Rattle.mc_config.specs.ReadingLaws.{withoutPhantom}
 use Rattle.mc_config.specs.declared.McHeader.{McHeader}
+use Rattle.mc_fields.specs.declared.McStatus.{McStatus}
 use Rattle.mc_fields.specs.Head.{mcHeader}
 use Rattle.mc_fields.specs.Lent.{stringFits, baseFits, headFits, headOf}
-use Rattle.mc_fields.specs.LentLaws.{lent-fits}
-use Rattle.mc_fields.specs.ReadingLaws.{header-refused, centre-stopped}
+use Rattle.mc_fields.specs.LentLaws.{lent-fits, lent-only}
+use Rattle.mc_fields.specs.ReadingLaws.{header-refused, centre-stopped, centre-known}
 use Rattle.mc_payload.specs.Unpack.{rateFits, loanFits}
 use Rattle.mc_payload.specs.Demand3.Accepted.{both-true}
+use Rattle.mc_payload.specs.Alike.{Alike}
+use Rattle.mc_payload.specs.ReadingLaws.{alike-stereo, alike-mono}
 use Rattle.mc_state.specs.declared.McDecodeState.{McDecodeState}
-use Rattle.mc_state.specs.Frame.{Lent, Buffers, After, lentBy, lentFits, valuesFit, verdictHead, verdictOf, answerOf, buffersOf, stateOf, frameOf}
+use Rattle.mc_state.specs.Frame.{Lent, Buffers, After, refusal, lentBy, lentFits, valuesFit, settingsFor, verdictHead, verdictOf, answerOf, buffersOf, stateOf, afterVerdict, afterUnpacked, frameOf}
+use Rattle.mc_state.specs.AlikeLaws.{frame-alike}
 
 -- refused so, and nothing is changed
 abbrev pub stoppedBy : Refusal → Buffers → McDecodeState → After
@@ -56,3 +63,82 @@ module _ (l : Lent) (w : Buffers) (st : McDecodeState) where
         refused-head (plain 13)
         (lent-fits (l .reading) (l .head) (l .headBits) (l .baseChannels) head-lent
         ∙ centre-stopped (l .reading) (l .baseChannels) (l .head) (l .headBits) 0 h u e t)
+
+-- ---- frames of reading 1
+
+-- the same call under reading 1, with this head
+abbrev pub underFirst : Lent → List ℕ → ℕ → Lent
+underFirst l head headBits =
+    record {
+      head = head;
+      headBits = headBits;
+      payload = l .payload;
+      payloadBits = l .payloadBits;
+      reading = 1;
+      rate = l .rate;
+      baseChannels = l .baseChannels;
+      base = l .base;
+      baseSteps = l .baseSteps;
+      lfe = l .lfe;
+      steps = l .steps;
+    }
+
+module _ (l : Lent) (w : Buffers) (st : McDecodeState) (head : List ℕ) (headBits : ℕ) where
+  abbrev first : Lent
+  first = underFirst l head headBits
+
+  -- what a call leaves, by the head that it has read
+  abbrev found : Lent → Outcome (McHeader × (ℕ × McStatus)) → After
+  found k o = afterVerdict (verdictHead k st o) (l .base) w st
+
+  frames-same : lentFits l w st ≡ lentFits first w st
+      → found l (headOf (l .reading) (l .head) (l .headBits) (l .baseChannels)) ≡ found first (headOf 1 head headBits (l .baseChannels))
+      → frameOf l w st ≡ frameOf first w st
+  unfolding frameOf verdictOf
+  frames-same fits same = rw fits (go (lentFits first w st) (valuesFit (l .base) (st .«pred_hist»)))
+    where
+      go : (lent values : Bool)
+          → afterVerdict (cond lent (cond values (verdictHead l st (headOf (l .reading) (l .head) (l .headBits) (l .baseChannels))) (refusal (plain 7))) (refusal (plain 6))) (l .base) w st
+          ≡ afterVerdict (cond lent (cond values (verdictHead first st (headOf 1 head headBits (l .baseChannels))) (refusal (plain 7))) (refusal (plain 6))) (l .base) w st
+      go true true = same
+      go true false = refl
+      go false values = refl
+
+  heads-same : (h h′ : McHeader) (word word′ : ℕ) (status : McStatus) (used : ℕ) → Alike (settingsFor l h status) (settingsFor first h′ status)
+      → found l (accepted (h, (word, status)) used) ≡ found first (accepted (h′, (word′, status)) used)
+  unfolding verdictHead afterUnpacked
+  heads-same h h′ word word′ status used e = frame-alike (settingsFor l h status) (settingsFor first h′ status) e (l .base) st used w (l .payload) (l .payloadBits)
+
+  -- over one base channel reading 2 gives the frame whose head has centre code 1 in place of 3
+  pub mono-frame : l .reading ≡ 2 → l .baseChannels ≡ 1 → (h : McHeader) (word word′ : ℕ) (status : McStatus) (used : ℕ)
+      → headOf (l .reading) (l .head) (l .headBits) (l .baseChannels) ≡ accepted (h, (word, status)) used
+      → headOf 1 head headBits (l .baseChannels) ≡ accepted (withoutPhantom h, (word′, status)) used
+      → frameOf l w st ≡ frameOf first w st
+  unfolding lentBy loanFits headFits
+  mono-frame r b h word word′ status used e e′ =
+      frames-same fits (rw (e, e′) (heads-same h (withoutPhantom h) word word′ status used alike))
+    where
+      fits : lentFits l w st ≡ lentFits first w st
+      fits =
+          let lent = both-true (readingFits (l .reading)) _ (lent-only (l .reading) (l .head) (l .headBits) (l .baseChannels) _ used e) in
+          let other = lent-only 1 head headBits (l .baseChannels) _ used e′ in
+          rw (both-true (stringFits (l .head) (l .headBits)) _ (lent .1) .0, both-true (stringFits head headBits) _ other .0, lent .0)
+
+      alike : Alike (settingsFor l h status) (settingsFor first (withoutPhantom h) status)
+      alike = rw (r, b) (alike-mono (l .rate) h status (l .lfe) (l .steps) (l .baseSteps))
+
+-- over two base channels every reading gives the frame of reading 1, unless the centre code stops it
+module _ (l : Lent) (w : Buffers) (st : McDecodeState) (fits : readingFits (l .reading) ≡ true) (n : l .baseChannels ≡ 1 → ⊥) (h : McHeader) (u : ℕ)
+    (e : run mcHeader (l .head) (l .headBits) 0 ≡ accepted h u) (known : centreStops (l .reading) (h .centre) ≡ false) where
+  head-same : headOf (l .reading) (l .head) (l .headBits) (l .baseChannels) ≡ headOf 1 (l .head) (l .headBits) (l .baseChannels)
+  unfolding headOf headFits
+  head-same = rw (fits, centre-known (l .reading) (l .baseChannels) (l .head) (l .headBits) 0 h u e known)
+
+  pub stereo-frame : frameOf l w st ≡ frameOf (underFirst l (l .head) (l .headBits)) w st
+  unfolding lentBy loanFits verdictHead
+  stereo-frame = frames-same l w st (l .head) (l .headBits) (rw fits) (rw head-same (go (headOf 1 (l .head) (l .headBits) (l .baseChannels))))
+    where
+      go : (o : Outcome (McHeader × (ℕ × McStatus))) → found l w st (l .head) (l .headBits) l o ≡ found l w st (l .head) (l .headBits) (underFirst l (l .head) (l .headBits)) o
+      go (refused x) = refl
+      go (accepted (h, (word, status)) used) =
+          heads-same l w st (l .head) (l .headBits) h h word word status used (alike-stereo (l .rate) h status (l .lfe) (l .steps) (l .baseSteps) (l .reading) (l .baseChannels) n)

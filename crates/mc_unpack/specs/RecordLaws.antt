@@ -11,7 +11,7 @@ use lib.ListN.{getD}
 use lib.Pow.{pow-mono}
 use borrow.Author.Tests.{ne-eqb}
 use Rattle.fill.specs.Tab.{tab}
-use Rattle.fill.specs.TabLaws.{getD-tab}
+use Rattle.fill.specs.TabLaws.{getD-tab, tab-same}
 use Rattle.bitalloc.specs.Classes.{isClass, classOf, grouped}
 use Rattle.bitalloc.specs.declared.QuantClass.{QuantClass}
 use Rattle.bitalloc.specs.Places.{class-steps, class-none}
@@ -20,7 +20,6 @@ use Rattle.requant.specs.Requant.{requantized, degrouped}
 use Rattle.mc_fields.specs.Head.{bitsIf}
 use Rattle.mc_payload.specs.declared.McSettings.{McSettings}
 use Rattle.mc_payload.specs.Places.{ownAt, place, ownOf}
-use Rattle.mc_places.specs.PlacesLaws.{tab-same}
 use Rattle.mc_payload.specs.Payload.{Codes}
 use Rattle.mc_payload.specs.Record.{delaysOf, coefsOf, sampleCodeOf, rawAt, rawOf, lfeAt, lfeOf}
 use Rattle.mc_values.specs.Values.{delaysIn, delaysFrom, coefBy, coefsIn, coefsFrom, threeCodes, threeValues, firstAt, valuesAt, rawBy, rawIn, rawFrom, lfeBy, lfeFrom, SamplesFit, LfeFits}
@@ -98,9 +97,7 @@ module _ (s : McSettings) (c : Codes) where
 
   pub raw-record : rawFrom (ownOf s) (c .1 .1 .1 .1) ≡ rawOf s c
   unfolding rawFrom rawOf
-  raw-record =
-      tab-same (λ k. rawIn (ownOf s) (c .1 .1 .1 .1) (k / 1152) (k / 32 % 36) (k % 32)) (λ k. rawAt s c (k / 1152) (k / 32 % 36) (k % 32)) 3456
-      (λ k h. raw-at (k / 1152) (k / 32 % 36) (k % 32) (omega arith) (omega arith))
+  raw-record = tab-same 3456 (λ k h. raw-at (k / 1152) (k / 32 % 36) (k % 32) (omega arith) (omega arith))
 
 -- ---- the codes of an accepted payload
 

@@ -6,7 +6,7 @@ use native.Mathlib.Nat.{add-zero, sub-zero}
 use native.Mathlib.Omega.{arith}
 use lib.Ieee.{Float, nan}
 use lib.ListN.{getD}
-use Rattle.fill.specs.TabLaws.{getD-tab}
+use Rattle.fill.specs.TabLaws.{getD-tab, tab-same}
 use Rattle.mc_payload.specs.declared.McSettings.{McSettings}
 use Rattle.mc_payload.specs.Record.{Record}
 use Rattle.mc_predict.specs.Laws.Chosen.{first-base}
@@ -15,7 +15,6 @@ use Rattle.mc_scale.specs.Scale.{scaledAt, scaledOf}
 use Rattle.mc_predict.specs.Predict.{baseFor, coefAt, delayAt, withTerm, sumOf, placeIn, predictedIn, workAt}
 use Rattle.mc_output.specs.Output.{workOf}
 use Rattle.mc_predict.specs.Code.PredictByLine.{lineAt, lineOf, termOf, termsOf, sumBy, groupsOf, predictedWork}
-use Rattle.mc_scale.specs.Laws.TabSame.{tab-same}
 
 line-value : (history base : List Float) (ch sb t : ℕ) → t < 45 → getD (lineOf history base ch sb) t nan ≡ lineAt history base ch sb t
 unfolding lineOf

@@ -9,6 +9,7 @@ use lib.Ieee.{Float, nan}
 use lib.ListN.{getD}
 use borrow.Author.Tests.{eqb-true}
 use Rattle.floats.specs.Binary64.{zero64}
+use Rattle.fill.specs.TabLaws.{tab-same}
 use Rattle.mc_config.specs.CaseLaws.{byPair-elim}
 use Rattle.mc_config.specs.Config.{mainOf}
 use Rattle.mc_payload.specs.declared.McSettings.{McSettings}
@@ -19,7 +20,6 @@ use Rattle.mc_predict.specs.Predict.{baseFor}
 use Rattle.mc_dematrix.specs.Dematrix.{dematrixed, passed, weighted, unweighted}
 use Rattle.mc_output.specs.Output.{second, outputOf}
 use Rattle.mc_output.specs.Code.OutputByMix.{mixOf, tcsOf, secondBy, channelBy, mainBy, outputBy, baseBy, baseAloneAt, baseAlone}
-use Rattle.mc_scale.specs.Laws.TabSame.{tab-same}
 use Rattle.mc_output.specs.Laws.OutputByMix.{output-written}
 
 unmixed : (p tc : ℕ) (lo ro t2 t3 t4 : Float) (pair : ℕ) → mainOf pair ≡ 0 → dematrixed pair p tc lo ro t2 t3 t4 ≡ lo ∷ ro ∷ zero64 ∷ zero64 ∷ zero64 ∷ []

@@ -10,12 +10,11 @@ use lib.ListN.{length, getD, set}
 use borrow.Author.Tests.{lt-ltb, le-ltb, le-leb, lt-leb, leb-true, leb-false, ltb-true, ltb-false}
 use Rattle.floats.specs.Binary64.{zero64}
 use Rattle.fill.specs.Tab.{tab}
-use Rattle.fill.specs.TabLaws.{length-tab, getD-tab, all-filled}
+use Rattle.fill.specs.TabLaws.{length-tab, getD-tab, all-filled, tab-same}
 use Rattle.fill.specs.ByTurn.{ByTurn, turn-more, turn-ends}
 use Rattle.mc_output.specs.declared.output.Mix.{Mix}
 use Rattle.mc_output.specs.Code.OutputByMix.{mainBy, mixedBy, SecondFits, secondBy, outputBy, mixedOfAt, mixedOf, withSecondAt, withSecond, beyondAt, beyond}
 use Rattle.mc_output.specs.Laws.OutputByMix.{length-dematrixed, second-value}
-use Rattle.mc_scale.specs.Laws.TabSame.{tab-same}
 use Rattle.mc_scale.specs.Laws.TurnBlock.{turn-skip, turn-rest}
 
 -- ---- +0 beyond the layout

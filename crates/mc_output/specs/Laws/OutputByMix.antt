@@ -12,7 +12,7 @@ use lib.ListN.{length, getD, set, length-set, length-append}
 use lib.Seq.{getD-set-same, getD-set-other}
 use borrow.Author.Tests.{ltb-true, le-leb, lt-leb}
 use Rattle.floats.specs.Binary64.{zero64}
-use Rattle.fill.specs.TabLaws.{getD-tab}
+use Rattle.fill.specs.TabLaws.{getD-tab, tab-same}
 use Rattle.fill.specs.ByTurn.{ByTurn}
 use Rattle.mc_config.specs.CaseLaws.{byPair-elim}
 use Rattle.mc_config.specs.Config.{mainOf, configOf, frontChannels, surroundChannels, layoutOf}
@@ -30,7 +30,6 @@ use Rattle.mc_output.specs.Code.OutputByMix.{mixOf, tcsOf, mixedBy, Seco
 use Rattle.mc_predict.specs.Laws.Chosen.{first-base}
 use Rattle.mc_scale.specs.Code.Strided.{across}
 use Rattle.mc_scale.specs.Laws.Strided.{length-strided, getD-strided, strided-other}
-use Rattle.mc_scale.specs.Laws.TabSame.{tab-same}
 use Rattle.mc_scale.specs.Laws.TurnBlock.{turn-block}
 
 -- one slot and subband of a loop that writes five channels side by side

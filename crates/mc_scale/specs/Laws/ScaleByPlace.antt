@@ -7,7 +7,7 @@ use lib.Ieee.{Float, nan}
 use lib.ListN.{getD, length}
 use borrow.Author.Tests.{eq-eqb, ne-eqb}
 use Rattle.fill.specs.Tab.{tab}
-use Rattle.fill.specs.TabLaws.{getD-tab, all-filled}
+use Rattle.fill.specs.TabLaws.{getD-tab, all-filled, tab-same}
 use Rattle.fill.specs.ByTurn.{ByTurn, turn-ends}
 use Rattle.floats.specs.Binary64.{zero64}
 use Rattle.tables.specs.Scalefactor.{scalefactorOf}
@@ -21,7 +21,6 @@ use Rattle.mc_scale.specs.Code.ScaleByPlace.{factorsOf, scaledFrom, plac
 use Rattle.mc_scale.specs.Code.Strided.{column}
 use Rattle.mc_scale.specs.Laws.Column.{turn-column, skip-column}
 use Rattle.mc_scale.specs.Laws.Strided.{strided-same}
-use Rattle.mc_scale.specs.Laws.TabSame.{tab-same}
 
 module _ (s : McSettings) (i : ℕ) (h : i < 96) where
   steps-at : getD (stepsOf s) i 0 ≡ stepsAt s (i % 3) (i / 3)

@@ -6,6 +6,15 @@ use Rattle.boundary.proofs.frames.phantom.Tie as tie
 first-steps-requires : tie.Need-first-steps-requires
 first-steps-requires c κs = search needs
 
+mul-payload-of-ones : tie.Need-mul-payload-of-ones
+mul-payload-of-ones c = search needs
+
+add-payload-of-ones : tie.Need-add-payload-of-ones
+add-payload-of-ones c = search needs
+
+mul-payload-of-ones-2 : tie.Need-mul-payload-of-ones-2
+mul-payload-of-ones-2 c = search needs
+
 payload-of-ones-requires : tie.Need-payload-of-ones-requires
 payload-of-ones-requires c κs = search needs
 
@@ -26,6 +35,9 @@ phantom-spec =
     tie.close
     (tie.spec
     first-steps-requires
+    mul-payload-of-ones
+    add-payload-of-ones
+    mul-payload-of-ones-2
     payload-of-ones-requires
     plain-head-requires
     new-requires

@@ -20,6 +20,9 @@ group-sources-requires c κs = search main-pair
 group-bases-requires : tie.Need-group-bases-requires
 group-bases-requires c κs = search needs
 
+phantom-of-requires : tie.Need-phantom-of-requires
+phantom-of-requires c κs = search needs
+
 msblimit-requires : tie.Need-msblimit-requires
 msblimit-requires c κs = search needs
 
@@ -38,6 +41,7 @@ places-of-spec =
     main-nmch-requires
     group-sources-requires
     group-bases-requires
+    phantom-of-requires
     msblimit-requires
     by-place-requires
     returns)
