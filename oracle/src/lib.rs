@@ -15,6 +15,7 @@ pub mod leaf;
 #[cfg(feature = "frame")]
 pub mod library;
 pub mod output;
+pub mod phantom;
 pub mod replay;
 pub mod sample;
 pub mod scope;

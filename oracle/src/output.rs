@@ -8,6 +8,14 @@ use crate::mc::{McChannel, McConfig, McHeader};
 /// An array by extension channel and subband, as the span has them.
 pub type ByPlace<T> = [[T; NUM_SUBBANDS]; 5];
 
+/// The two bits of a header that are its centre field.
+#[derive(Debug, Clone, Copy, PartialEq, Eq)]
+pub struct CentreField {
+    /// The first of them.
+    pub at: u64,
+    pub code: u32,
+}
+
 /// A head that was read.
 #[derive(Debug, Clone, PartialEq)]
 pub struct HeadOutput {

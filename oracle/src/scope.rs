@@ -1,12 +1,16 @@
 //! Document 01's side of a frame, with document 02's readings: flat buffers, the state with its
 //! counter, and the four refusals that the published code does not have. Those (6, 7, 8 and 13) are
 //! written here by hand; every other refusal and every value is the reference's, under either reading.
+//! Where reading 2 lifts the phantom limit, the reference is asked about the frame with another centre
+//! code, and refusal 8 goes by the places of that frame.
 
 use crate::bitalloc::class_of_quantization;
+use crate::generator::writer::put;
 use crate::input::{FrameInput, READINGS, Slots};
 use crate::mc::{McDecodeState, McError};
-use crate::output::FrameOutput;
+use crate::output::{CentreField, FrameOutput, HeadOutput};
 use crate::{reference_centre, reference_frame, reference_head, reference_places};
+use std::borrow::Cow;
 
 /// A refusal by document 01's number; group and code are 0 except under 2.
 #[derive(Debug, Clone, Copy, PartialEq, Eq, Hash)]
@@ -96,7 +100,8 @@ fn flat(channels: &[Slots], count: usize) -> Vec<f64> {
     values
 }
 
-/// A frame by document 01: its refusal or its values, and the state afterwards.
+/// A frame by documents 01 and 02: its refusal or its values, and the state afterwards. The head is
+/// that of the string as lent.
 pub fn judge(input: &FrameInput, state: &mut State) -> Result<FrameOutput, Refusal> {
     if !rightly_lent(input, state) {
         return Err(Refusal::plain(6));
@@ -107,14 +112,16 @@ pub fn judge(input: &FrameInput, state: &mut State) -> Result<FrameOutput, Refus
     if undefined_centre(input.reading, &input.head, input.head_bits) {
         return Err(Refusal::plain(13));
     }
-    if !rightly_allocated(input)? {
+    let head = reference_head(&input.head, input.head_bits, input.base_channels)?;
+    let asked = asked(input);
+    if !rightly_allocated(&asked, &head)? {
         return Err(Refusal::plain(8));
     }
     let held = (state.count != 0).then_some(state.count as usize);
     let mut decoder = McDecodeState::with(&state.history, held);
-    let answer = reference_frame(input, &mut decoder);
+    let answer = reference_frame(&asked, &mut decoder);
     state.history = decoder.history();
-    let frame = answer?;
+    let frame = FrameOutput { head, ..answer? };
     state.count = frame.span.layout.len() as u32;
     state.frames = state.frames.saturating_add(1);
     Ok(frame)
@@ -157,16 +164,42 @@ fn values_in_range(input: &FrameInput, state: &State) -> bool {
 
 /// The reason for refusal 13: under reading 2 a whole header with centre code 2, whatever follows it.
 pub fn undefined_centre(reading: u32, head: &[u8], head_bits: u64) -> bool {
-    reading == 2 && reference_centre(head, head_bits) == Ok(2)
+    reading == 2 && reference_centre(head, head_bits).is_ok_and(|centre| centre.code == 2)
 }
 
-/// No reason for refusal 8, of a head that is not refused itself.
-fn rightly_allocated(input: &FrameInput) -> Result<bool, McError> {
-    let head = reference_head(&input.head, input.head_bits, input.base_channels)?;
-    let places = reference_places(input)?;
-    let lfe = head.mc_header.lfe || input.lfe_allocation == 0;
+/// Whether the reference is asked about another head than the one that is lent, of a frame that is
+/// refused with neither 6 nor 7.
+pub fn amended(input: &FrameInput) -> bool {
+    unlimited_centre(input).is_some()
+}
+
+/// The centre field of a phantom centre that bars nothing: under reading 2 one bars for a front of
+/// three only, which one base channel does not have.
+fn unlimited_centre(input: &FrameInput) -> Option<CentreField> {
+    if input.reading != 2 || input.base_channels != 1 {
+        return None;
+    }
+    let centre = reference_centre(&input.head, input.head_bits).ok()?;
+    (centre.code == 3).then_some(centre)
+}
+
+/// The frame as the reference, which knows reading 1 alone, is asked about it: a phantom centre that
+/// bars nothing has code 1, which over one base channel differs from 3 in the limit alone.
+fn asked(input: &FrameInput) -> Cow<'_, FrameInput> {
+    let Some(centre) = unlimited_centre(input) else {
+        return Cow::Borrowed(input);
+    };
+    let mut amended = input.clone();
+    put(&mut amended.head, centre.at, 2, 1);
+    Cow::Owned(amended)
+}
+
+/// No reason for refusal 8, of a frame as the reference is asked about it, whose head was read.
+fn rightly_allocated(asked: &FrameInput, head: &HeadOutput) -> Result<bool, McError> {
+    let places = reference_places(asked)?;
+    let lfe = head.mc_header.lfe || asked.lfe_allocation == 0;
     let step_counts = (0..96).all(|k| {
-        let steps = input.nb_steps[k / 32][k % 32];
+        let steps = asked.nb_steps[k / 32][k % 32];
         known(steps) && (steps == 0 || places.transmitted(k / 32, k % 32))
     });
     Ok(lfe && step_counts)

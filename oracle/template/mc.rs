@@ -7,7 +7,7 @@ use crate::bitalloc::{BitAllocTable, NUM_SUBBANDS, class_of_quantization};
 use crate::bits::BitReader;
 use crate::header::{HeaderError, Mode};
 use crate::input::{Base, FrameInput};
-use crate::output::{HeadOutput, PayloadOutput, Places, SpanOutput, Status};
+use crate::output::{CentreField, HeadOutput, PayloadOutput, Places, SpanOutput, Status};
 use crate::requant::{degroup, requantize_code};
 use crate::tables::SCALEFACTORS;
 
@@ -64,7 +64,7 @@ pub fn reference_head(
     let (packed, mc_bits) = (head, head_bits);
     /*@status*/
     Ok(HeadOutput {
-        centre_code: centre_code(head, hdr_bits)?,
+        centre_code: centre_field(head, hdr_bits)?.code,
         check_word: wire_mc_crc,
         sources: core::array::from_fn(|sbgr| letters(&sources[sbgr])),
         status: Status {
@@ -86,20 +86,21 @@ pub fn reference_head(
 }
 
 /// Reads the header alone: its centre field.
-pub fn reference_centre(head: &[u8], head_bits: u64) -> Result<u32, McError> {
+pub fn reference_centre(head: &[u8], head_bits: u64) -> Result<CentreField, McError> {
     let total_bits = head_bits;
     let mut hdr_reader = BitReader::new(head);
     /*@header*/
-    centre_code(head, hdr_reader.bit_position())
+    centre_field(head, hdr_reader.bit_position())
 }
 
 /// The centre field as it was read, which the published header keeps only by its meaning: the first
 /// two of the 15 bits that end the header.
-fn centre_code(head: &[u8], hdr_bits: u64) -> Result<u32, McError> {
+fn centre_field(head: &[u8], hdr_bits: u64) -> Result<CentreField, McError> {
+    let at = hdr_bits - 15;
     let mut r = BitReader::new(head);
-    r.skip(hdr_bits as u32 - 15)
-        .map_err(|_| McError::UnexpectedEnd)?;
-    read_u32(&mut r, 2, hdr_bits)
+    r.skip(at as u32).map_err(|_| McError::UnexpectedEnd)?;
+    let code = read_u32(&mut r, 2, hdr_bits)?;
+    Ok(CentreField { at, code })
 }
 
 /// Sources as document 01 writes them, a hyphen where there is no main channel.

@@ -2,9 +2,9 @@
 
 use oracle::generator::Plan;
 use oracle::generator::damage::{Part, cut};
-use oracle::leaf;
 use oracle::mc::sbgr_of_subband;
 use oracle::scope::{Refusal, State, judge};
+use oracle::{FrameOutput, leaf};
 
 fn refusal(number: u32) -> Refusal {
     Refusal::plain(number)
@@ -115,22 +115,51 @@ fn layouts_of_equal_length_follow_each_other() {
     assert_eq!((state.count, state.frames), (4, 2));
 }
 
+/// Mono base, phantom centre, second stereo; second left has 7 steps and the highest code in these
+/// subbands.
+fn phantom(reading: u32, subbands: &[usize]) -> Plan {
+    let mut plan = Plan::plain(1, 3, 3);
+    plan.reading = reading;
+    plan.base.scaled[0] = vec![[0.25; 32]; 36];
+    for &sb in subbands {
+        plan.payload.steps[0][sb] = 7;
+        plan.payload.codes[0][0][sb] = [7; 3];
+    }
+    plan
+}
+
+/// Second left in the first slot: transmitted in these subbands, +0 in the others below the limit, and
+/// the base value from it on.
+fn second_left_is_heard(frame: &FrameOutput, subbands: &[usize]) {
+    let second_left = frame.span.out_sub[1][0];
+    for (sb, value) in second_left.into_iter().enumerate() {
+        if subbands.contains(&sb) {
+            assert!(![0.0, 0.25].contains(&value), "subband {sb}");
+        } else {
+            let wanted = if sb < 30 { 0.0f64 } else { 0.25 };
+            assert_eq!(value.to_bits(), wanted.to_bits(), "subband {sb}");
+        }
+    }
+}
+
 #[test]
 fn mono_base_with_phantom_and_second_stereo() {
-    let mut plan = Plan::plain(1, 3, 3);
-    plan.base.scaled[0] = vec![[0.25; 32]; 36];
-    plan.payload.steps[0][11] = 7;
-    plan.payload.codes[0][0][11] = [7; 3];
-    let frame = judge(&plan.input(), &mut State::fresh()).unwrap();
-    assert_ne!(frame.span.out_sub[1][0][11], 0.25);
-    for sb in 12..32 {
-        let wanted = if sb < 30 { 0.0f64 } else { 0.25 };
-        let value = frame.span.out_sub[1][0][sb];
-        assert_eq!(value.to_bits(), wanted.to_bits());
+    for (reading, subbands, accepted) in [
+        (1, vec![11], true),
+        (1, vec![11, 12], false),
+        (1, vec![30], false),
+        (2, vec![11], true),
+        (2, vec![11, 12], true),
+        (2, vec![29], true),
+        (2, vec![30], false),
+    ] {
+        let plan = phantom(reading, &subbands);
+        let answer = judge(&plan.input(), &mut State::fresh());
+        match accepted {
+            true => second_left_is_heard(&answer.unwrap(), &subbands),
+            false => assert_eq!(answer, Err(refusal(8))),
+        }
     }
-    plan.payload.steps[0][12] = 7;
-    let answer = judge(&plan.input(), &mut State::fresh());
-    assert_eq!(answer, Err(refusal(8)));
 }
 
 #[test]

@@ -1,6 +1,6 @@
 //! The lines of the program `boundary`, written once more from the reference: each line of
 //! crates/boundary/stdout has to be what the published Rust answers to the same frame, or documents 01
-//! and 02 where the Rust has no such refusal.
+//! and 02 where the Rust has no such refusal or reading.
 
 use oracle::generator::Plan;
 use oracle::input::Slots;
@@ -42,13 +42,14 @@ fn longest() -> Plan {
     longest
 }
 
-/// Mono base, phantom centre, second stereo; 7 steps and the highest code in the first subbands.
-fn phantom(subbands: usize) -> Plan {
+/// Mono base, phantom centre, second stereo; 7 steps and the highest code in the first subbands. Its
+/// ones begin with a byte: behind an odd number of scfsi codes and scalefactors four bits are 0.
+fn phantom(reading: u32, subbands: usize) -> Plan {
     let mut plan = plan(1, 3, 3, 0.25);
+    plan.reading = reading;
     plan.payload.steps[0][..subbands].fill(7);
-    for granule in &mut plan.payload.codes {
-        granule[0][..subbands].fill([7; 3]);
-    }
+    plan.payload.codes.fill([[[7; 3]; 32]; 3]);
+    plan.payload.codes[0][0][0] = [[7, 7, 7], [0, 3, 7]][subbands % 2];
     plan
 }
 
@@ -73,8 +74,9 @@ fn lfe_scalefactor() -> Plan {
     plan
 }
 
-fn barred() -> Plan {
+fn barred(reading: u32) -> Plan {
     let mut plan = plan(2, 3, 2, 0.25);
+    plan.reading = reading;
     plan.payload.steps[0][..13].fill(7);
     plan
 }
@@ -189,10 +191,9 @@ fn held(frame: &FrameOutput, base: &Slots, subband: usize) -> &'static str {
     }
 }
 
-fn mono_bases(lines: &mut Lines) {
-    let plan = phantom(12);
-    let name = "mono base, phantom centre, second stereo";
-    let frame = lines.line(name, &plan, &mut State::fresh()).unwrap();
+/// The line of an accepted frame that has second left, with what that holds.
+fn second_left(lines: &mut Lines, name: &str, plan: &Plan) {
+    let frame = lines.line(name, plan, &mut State::fresh()).unwrap();
     let mut subband = 0;
     let mut until = |what| {
         while subband < 32 && held(&frame, &plan.base.scaled[0], subband) == what {
@@ -204,8 +205,13 @@ fn mono_bases(lines: &mut Lines) {
     lines.add(&format!(
         "; second left transmitted below subband {others}, then +0 below {zeros}, then the base value below {bases}"
     ));
+}
+
+fn mono_bases(lines: &mut Lines) {
+    let name = "mono base, phantom centre, second stereo";
+    second_left(lines, name, &phantom(1, 12));
     let name = "the same with a step count in subband 12";
-    let _ = lines.line(name, &phantom(13), &mut State::fresh());
+    let _ = lines.line(name, &phantom(1, 13), &mut State::fresh());
     surround(lines);
 }
 
@@ -241,7 +247,7 @@ fn refusals(lines: &mut Lines) {
         input.sample_rate = 24_000
     });
     let _ = lines.line("base value above 4", &three_two(2.876953125), &mut state());
-    let _ = lines.line("step count in a barred subband", &barred(), &mut state());
+    let _ = lines.line("step count in a barred subband", &barred(1), &mut state());
 }
 
 fn readings(lines: &mut Lines) {
@@ -267,6 +273,17 @@ fn readings(lines: &mut Lines) {
     read("reading 3", no_centre(), 3, None);
 }
 
+fn phantom_limits(lines: &mut Lines) {
+    let name = "mono base, phantom centre, second stereo, step count in subband 12, reading 2";
+    second_left(lines, name, &phantom(2, 13));
+    let name = "step counts up to the subband limit, reading 2";
+    second_left(lines, name, &phantom(2, 30));
+    let name = "step count at the subband limit, reading 2";
+    let _ = lines.line(name, &phantom(2, 31), &mut State::fresh());
+    let name = "step count in a barred subband over two base channels, reading 2";
+    let _ = lines.line(name, &barred(2), &mut State::fresh());
+}
+
 #[test]
 fn each_line_is_what_the_published_rust_answers() {
     let mut lines = Lines::default();
@@ -275,6 +292,7 @@ fn each_line_is_what_the_published_rust_answers() {
     mono_bases(&mut lines);
     refusals(&mut lines);
     readings(&mut lines);
+    phantom_limits(&mut lines);
     let expected = include_str!("../../crates/boundary/stdout");
     let expected: Vec<&str> = expected.lines().collect();
     assert_eq!(lines.0, expected);

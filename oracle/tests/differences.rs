@@ -173,3 +173,23 @@ fn entry_20_centre_code_2_stops_under_reading_2() {
         assert_eq!(answer, Err(Refusal::plain(13)));
     }
 }
+
+/// The published code has no readings: with centre code 3 it reads no step count from subband 12 on, so
+/// nothing of this payload, and with code 1 it reads this frame.
+#[test]
+fn entry_21_phantom_centre_over_a_mono_base_under_reading_2() {
+    let mut plan = Plan::plain(1, 3, 3);
+    plan.reading = 2;
+    plan.payload.steps[0][12] = 7;
+    plan.payload.codes[0][0][12] = [7; 3];
+    let published = |plan: &Plan| {
+        let frame = reference_frame(&plan.input(), &mut McDecodeState::new());
+        frame.unwrap().span
+    };
+    assert_eq!(published(&plan).payload_used, 0);
+    let span = judge(&plan.input(), &mut State::fresh()).unwrap().span;
+    assert_eq!(span.payload_used, 128);
+    assert_ne!(span.out_sub[1][0][12], 0.0);
+    plan.head.centre = 1;
+    assert_eq!(published(&plan), span);
+}

@@ -5,6 +5,7 @@ use oracle::audio_data::Scfsi;
 use oracle::generator::layout::grouped;
 use oracle::generator::plan::parts_shared;
 use oracle::generator::{Plan, Random, Source, base, damage};
+use oracle::input::READINGS;
 use oracle::scope::{Buffers, State, judge};
 use oracle::{FrameOutput, HeadOutput, PayloadOutput, leaf};
 
@@ -19,10 +20,18 @@ fn state_for(plan: &Plan, seed: u64) -> State {
     }
 }
 
+/// Plans under each reading with their seeds, but for those whose centre code reading 2 refuses.
+fn plans() -> impl Iterator<Item = (Plan, u64)> {
+    let seeds = READINGS
+        .into_iter()
+        .flat_map(|reading| (0..FRAMES).map(move |seed| (reading, seed)));
+    let plans = seeds.map(|(reading, seed)| (Plan::random_under(reading, seed), seed));
+    plans.filter(|(plan, _)| (plan.reading, plan.head.centre) != (2, 2))
+}
+
 #[test]
 fn generated_frames_are_accepted_and_read_back() {
-    for seed in 0..FRAMES {
-        let plan = Plan::random(seed);
+    for (plan, seed) in plans() {
         let mut state = state_for(&plan, seed);
         let before = state.clone();
         let frame = judge(&plan.input(), &mut state)

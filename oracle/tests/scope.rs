@@ -67,27 +67,6 @@ fn another_reading_is_a_wrong_loan() {
     }
 }
 
-/// Under reading 2 centre code 2 is refused, over one base channel too; all else is as under reading 1.
-#[test]
-fn readings_differ_in_centre_code_2_alone() {
-    for seed in 0..4 * Plan::SHAPES {
-        let (plan, state, _) = lent(seed);
-        let [one, two] = READINGS.map(|reading| {
-            let (mut input, mut state) = (plan.input(), state.clone());
-            input.reading = reading;
-            (judge(&input, &mut state), state)
-        });
-        assert!(one.0.is_ok(), "seed {seed}");
-        match plan.head.centre {
-            2 => {
-                assert_eq!(two.0.unwrap_err().number, 13, "seed {seed}");
-                assert_eq!(two.1, state, "seed {seed}");
-            }
-            _ => assert_eq!(one, two, "seed {seed}"),
-        }
-    }
-}
-
 /// From the header's last bit on, whether a check word follows or not.
 #[test]
 fn undefined_centre_comes_after_the_header() {

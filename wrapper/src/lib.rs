@@ -117,7 +117,8 @@ pub struct Frame<'a> {
     /// At most eight times the bytes.
     pub payload_bits: usize,
     /// The reading of the transfer guide, 1 or 2. Reading 1 is the standard's text as the published
-    /// Rust takes it; under reading 2 a header with centre code 2 is refused.
+    /// Rust takes it. Under reading 2 a header with centre code 2 is refused, and centre code 3 bars no
+    /// place over one base channel, where reading 1 bars second left from subband 12 on.
     pub reading: u32,
     /// 32,000, 44,100 or 48,000.
     pub rate: u32,

@@ -36,6 +36,15 @@ impl Lent {
         }
     }
 
+    /// The same over one base channel.
+    fn mono(mut self) -> Lent {
+        self.base_channels = 1;
+        self.base[1].clear();
+        self.base[3].clear();
+        self.base_nb_steps.truncate(32);
+        self
+    }
+
     fn decode(&mut self, state: &mut McState) -> Result<Used, McError> {
         let frame = Frame {
             head: &self.head,
@@ -143,12 +152,7 @@ fn centre_code_2_is_taken_under_reading_1() {
 #[test]
 fn centre_code_2_is_refused_under_reading_2() {
     centre_code_2(2).refused(McError::UndefinedCentre);
-    let mut mono = centre_code_2(2);
-    mono.base_channels = 1;
-    mono.base[1].clear();
-    mono.base[3].clear();
-    mono.base_nb_steps.truncate(32);
-    mono.refused(McError::UndefinedCentre);
+    centre_code_2(2).mono().refused(McError::UndefinedCentre);
 }
 
 /// After the header's 16 bits and before the check word.
@@ -163,6 +167,33 @@ fn undefined_centre_of_a_short_head() {
         lent.head_bits = head_bits;
         lent.refused(error);
     }
+}
+
+/// A mono base with centre code 3, second stereo and 7 steps in subband 12 of second left: 2 bits of
+/// scfsi, 18 of scalefactors and 108 of samples, all 0.
+fn phantom_centre(reading: u32) -> Lent {
+    let mut lent = Lent::smallest().mono();
+    lent.head[0] = 0x78;
+    lent.payload = vec![0; 16];
+    lent.nb_steps[12] = 7;
+    lent.reading = reading;
+    lent
+}
+
+#[test]
+fn phantom_centre_over_a_mono_base_bars_under_reading_1_alone() {
+    phantom_centre(1).refused(McError::InvalidAllocation);
+    let (mut lent, mut state) = (phantom_centre(2), McState::new());
+    let used = Used {
+        head_bits: 35,
+        payload_bits: 128,
+    };
+    assert_eq!(lent.decode(&mut state), Ok(used));
+    let second_left = &lent.written[2][1152..2 * 1152];
+    let slots = |subband: usize| second_left[subband..].iter().step_by(32);
+    assert!(slots(12).all(|&value| value != 0.0));
+    assert!(slots(11).chain(slots(13)).all(|value| value.to_bits() == 0));
+    assert_eq!((state.layout_len(), state.accepted()), (3, 1));
 }
 
 #[test]

@@ -120,8 +120,8 @@ fn place(random: &mut Random, n: u32) -> usize {
     random.pick(&[0, n - 1, any, any]) as usize
 }
 
-/// An allocation of refusal 8, for the frame of a plan: a step count that no class has, one at a place
-/// that is not transmitted, or an LFE allocation without LFE.
+/// An allocation of refusal 8, for the frame of a plan under its reading: a step count that no class
+/// has, one at a place that is not transmitted, or an LFE allocation without LFE.
 pub fn wrong_allocation(random: &mut Random, plan: &Plan, input: &mut FrameInput) {
     if !plan.head.lfe && random.chance(1, 4) {
         input.lfe_allocation = 1 + random.below(15);

@@ -1,5 +1,8 @@
-//! Layouts, crosstalk codes and roles, written down from document 01 and ISO/IEC 13818-3 §2.5.2.15
-//! apart from the published code, so that what is generated does not lean on what is tested.
+//! Layouts, crosstalk codes and roles, written down from documents 01 and 02 and ISO/IEC 13818-3
+//! §2.5.2.15 apart from the published code, so that what is generated does not lean on what is tested.
+
+/// The first subband that a phantom centre bars.
+pub const PHANTOM_LIMIT: usize = 12;
 
 /// What the header and the number of base channels make of a frame.
 #[derive(Debug, Clone, Copy, PartialEq, Eq)]
@@ -11,7 +14,7 @@ pub struct Layout {
     pub main: usize,
     pub tc_bits: u32,
     pub crosstalk_bits: u32,
-    /// The phantom centre bars channel 0 from subband 12 on.
+    /// The header's centre is a phantom one.
     pub phantom: bool,
 }
 
@@ -52,6 +55,13 @@ impl Layout {
     pub fn outputs(&self) -> usize {
         let second = if self.second_stereo { 2 } else { 0 };
         usize::from(self.front + self.surround) + second
+    }
+
+    /// Whether a phantom centre bars a place: one of the first extension channel, from
+    /// [`PHANTOM_LIMIT`] on. Under reading 2 it does so for a front of three only.
+    pub fn barred(&self, reading: u32, channel: usize, subband: usize) -> bool {
+        let limited = self.phantom && (reading == 1 || self.front == 3);
+        limited && channel == 0 && subband >= PHANTOM_LIMIT
     }
 
     /// The sources of each crosstalk code: T transmitted, B base, a digit another channel.

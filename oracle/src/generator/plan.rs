@@ -7,12 +7,14 @@ use super::layout::{Layout, code_width, group_of, grouped, subband_limit};
 use super::payload::Payload;
 use super::random::Random;
 use super::writer::{Kind, Written};
-use crate::input::FrameInput;
+use crate::input::{FrameInput, READINGS};
 
 /// A frame before it is written. Any plan whose fields fit their widths can be written; a random one
-/// is accepted.
+/// is accepted, but that reading 2 refuses centre code 2.
 #[derive(Debug, Clone, PartialEq)]
 pub struct Plan {
+    /// The reading that decides which places are barred, and under which the frame is lent.
+    pub reading: u32,
     pub base_channels: usize,
     pub sample_rate: u32,
     pub head: Head,
@@ -35,12 +37,17 @@ impl Plan {
     /// Base channels, centre and surround code, rate and procedure: 2 x 4 x 4 x 3 x 4.
     pub const SHAPES: u64 = 384;
 
-    /// An accepted frame. Consecutive seeds go through the shapes in turn; the rest is random.
+    /// Accepted under reading 1. Consecutive seeds go through the shapes in turn; the rest is random.
     pub fn random(seed: u64) -> Plan {
-        Plan::of_shape(seed % Plan::SHAPES, seed)
+        Plan::random_under(1, seed)
     }
 
-    /// A frame of zeros with this shape, one of [`Plan::SHAPES`].
+    /// The same under this reading, which may refuse the centre code.
+    pub fn random_under(reading: u32, seed: u64) -> Plan {
+        Plan::of_shape_under(reading, seed % Plan::SHAPES, seed)
+    }
+
+    /// A frame of zeros with this shape, one of [`Plan::SHAPES`], under reading 1.
     pub fn plain_of_shape(shape: u64) -> Plan {
         let mut rest = shape;
         let mut digit = |base: u64| {
@@ -55,10 +62,16 @@ impl Plan {
         plan
     }
 
-    /// An accepted frame of this shape; the rest is random.
+    /// An accepted frame of this shape under reading 1; the rest is random.
     pub fn of_shape(shape: u64, seed: u64) -> Plan {
+        Plan::of_shape_under(1, shape, seed)
+    }
+
+    /// The same under this reading, which may refuse the centre code.
+    pub fn of_shape_under(reading: u32, shape: u64, seed: u64) -> Plan {
         let random = &mut Random::new(seed);
         let mut plan = Plan::plain_of_shape(shape);
+        plan.reading = reading;
         plan.head = Head::random(random, plan.base_channels, plan.head);
         plan.base = Base::random(random, plan.base_channels);
         plan.payload = Payload::random(random, plan.head.lfe, |channel, subband| {
@@ -67,9 +80,10 @@ impl Plan {
         plan
     }
 
-    /// A frame of zeros with this layout, at 44,100 Hz.
+    /// A frame of zeros with this layout, at 44,100 Hz, under reading 1.
     pub fn plain(base_channels: usize, centre: u32, surround: u32) -> Plan {
         Plan {
+            reading: 1,
             base_channels,
             sample_rate: 44_100,
             head: Head::plain(centre, surround),
@@ -100,9 +114,8 @@ impl Plan {
 
     /// Where a place gets its step count and samples from; the phantom bar comes before crosstalk.
     pub fn source(&self, channel: usize, subband: usize) -> Source {
-        let layout = self.layout();
-        let limit = subband_limit(self.sample_rate);
-        let barred = layout.phantom && channel == 0 && subband >= 12;
+        let (layout, limit) = (self.layout(), subband_limit(self.sample_rate));
+        let barred = layout.barred(self.reading, channel, subband);
         if channel >= layout.channels() || subband >= limit || barred {
             return Source::Nowhere;
         }
@@ -124,6 +137,19 @@ impl Plan {
             b'B' => Source::Base(layout.base_channel(tc, channel, left_right)),
             digit => Source::Channel(usize::from(digit - b'0')),
         }
+    }
+
+    /// The readings under which no step count of the plan stands at a barred place.
+    pub fn readings(&self) -> Vec<u32> {
+        let free = |reading: &u32| !self.barred_under(*reading);
+        READINGS.into_iter().filter(free).collect()
+    }
+
+    /// Whether a step count of the plan stands at a place that is barred under this reading.
+    pub fn barred_under(&self, reading: u32) -> bool {
+        let layout = self.layout();
+        let barred = |k: usize| layout.barred(reading, k / 32, k % 32);
+        (0..96).any(|k| self.payload.steps[k / 32][k % 32] != 0 && barred(k))
     }
 
     /// The step count of a place, a crossed one among them.
@@ -209,7 +235,7 @@ impl Plan {
         }
     }
 
-    /// The frame as it is lent, under reading 1.
+    /// The frame as it is lent, under the plan's reading.
     pub fn input(&self) -> FrameInput {
         self.lent(&self.head_written(), &self.payload_written())
     }
@@ -221,7 +247,7 @@ impl Plan {
             head_bits: head.bits,
             payload: payload.bytes.clone(),
             payload_bits: payload.bits,
-            reading: 1,
+            reading: self.reading,
             sample_rate: self.sample_rate,
             base_channels: self.base_channels,
             base_raw: self.base.raw.clone(),
@@ -256,7 +282,7 @@ impl Made {
         }
     }
 
-    /// The frame as it is lent, under reading 1.
+    /// The frame as it is lent, under the plan's reading.
     pub fn input(&self) -> FrameInput {
         self.plan.lent(&self.head, &self.payload)
     }

@@ -3,11 +3,12 @@
 use crate::case::{Case, SLICES};
 use oracle::generator::layout::{Layout, STEPS};
 use oracle::input::READINGS;
+use oracle::phantom::{COUNTED, counted, on_amended_head};
 use oracle::scope::Refusal;
 use oracle::{FrameInput, FrameOutput};
 use std::collections::BTreeMap;
 
-/// What frames are counted by. All but the first four count accepted frames.
+/// What frames are counted by. All but the first six count accepted frames.
 #[derive(Debug, Clone, Copy, PartialEq, Eq, PartialOrd, Ord)]
 enum By {
     Answer,
@@ -17,6 +18,10 @@ enum By {
     WrongLength,
     /// The reading, 3 for any other number.
     Reading,
+    /// 0 for every frame that was judged on an amended head, 1 and the answer for each of them.
+    AmendedHead,
+    /// Mono base, phantom centre and second stereo: a place in [`COUNTED`].
+    MonoPhantom,
     /// The reading of an accepted frame.
     AcceptedUnder,
     /// Front, surround and second stereo as one number.
@@ -58,6 +63,7 @@ impl Coverage {
         }
         let named = READINGS.contains(&case.input.reading);
         self.add(By::Reading, if named { case.input.reading } else { 3 }, 0);
+        self.phantom(case, answer);
         match answer {
             Err(refusal) => {
                 self.add(By::Answer, refusal.number, 0);
@@ -66,6 +72,18 @@ impl Coverage {
                 }
             }
             Ok(frame) => self.accepted(&case.input, frame),
+        }
+    }
+
+    /// Frames judged on an amended head; mono bases with a phantom centre and second stereo.
+    fn phantom(&mut self, case: &Case, answer: &Result<FrameOutput, Refusal>) {
+        if on_amended_head(&case.input, answer) {
+            let number = answer.as_ref().map_or_else(|refusal| refusal.number, |_| 0);
+            self.add(By::AmendedHead, 0, 0);
+            self.add(By::AmendedHead, 1, number);
+        }
+        for place in counted(&case.input, &case.state, answer) {
+            self.add(By::MonoPhantom, *place as u32, 0);
         }
     }
 
@@ -172,13 +190,22 @@ fn layout_name(number: u32) -> String {
     format!("{}/{}{second}", number / 100, number / 10 % 10)
 }
 
+fn answer_name(number: u32) -> String {
+    match number {
+        0 => "accepted".to_string(),
+        _ => format!("refusal {number}"),
+    }
+}
+
 /// The name of a cell within its line.
 fn label((by, first, second): (By, u32, u32)) -> String {
     match by {
-        By::Answer if first == 0 => "accepted".to_string(),
-        By::Answer => format!("refusal {first}"),
+        By::Answer => answer_name(first),
         By::WrongLength => SLICES[first as usize].to_string(),
         By::Reading if first == 3 => "another".to_string(),
+        By::AmendedHead if first == 0 => "all".to_string(),
+        By::AmendedHead => answer_name(second),
+        By::MonoPhantom => COUNTED[first as usize].to_string(),
         By::AcceptedUnder => format!("reading {first}"),
         By::Layout => layout_name(first),
         By::Tc | By::Code => second.to_string(),
@@ -198,6 +225,8 @@ fn wanted() -> Vec<(By, u32, u32)> {
     range(By::Answer, 13..14);
     range(By::WrongLength, 0..10);
     range(By::Reading, 1..4);
+    range(By::AmendedHead, 0..1);
+    range(By::MonoPhantom, 0..COUNTED.len() as u32);
     range(By::AcceptedUnder, 1..3);
     range(By::BaseChannels, 1..3);
     range(By::Procedure, 0..4);
@@ -205,6 +234,7 @@ fn wanted() -> Vec<(By, u32, u32)> {
     range(By::Prediction, 0..3);
     range(By::SecondStereo, 0..3);
     range(By::Phantom, 0..2);
+    cells.extend([0, 1, 3, 4, 5, 8].map(|answer| (By::AmendedHead, 1, answer)));
     cells.extend([32_000, 44_100, 48_000].map(|rate| (By::Rate, rate, 0)));
     cells.extend(STEPS.map(|steps| (By::Class, steps, 0)));
     cells.extend((0..24).map(|k| (By::Predictor, k / 4, k % 4)));

@@ -1,5 +1,5 @@
 //! Sequences of frames through one state: spoiled ones, then the whole one, then the next plan. Each
-//! frame is lent under a reading drawn at random.
+//! plan is drawn, and each frame lent, under a reading drawn at random.
 
 use crate::case::{Case, spoil};
 use crate::lent::Compared;
@@ -37,7 +37,8 @@ pub fn sequence(run: &mut Run, seed: u64, number: u64) -> Result<(), Stopped> {
     start(run, &mut random).map_err(|difference| (difference, "fresh state".to_string()))?;
     for step in 0..PLANS {
         let shape = shape(&mut random, run.state.count);
-        let made = Made::of(Plan::of_shape(shape, random.bits64()));
+        let reading = random.pick(&READINGS);
+        let made = Made::of(Plan::of_shape_under(reading, shape, random.bits64()));
         for _ in 0..random.below(6) {
             let mut case = Case::of(&made, &run.state, random.pick(&READINGS));
             spoil(&mut random, &made, &mut case);
@@ -55,28 +56,29 @@ pub fn sequence(run: &mut Run, seed: u64, number: u64) -> Result<(), Stopped> {
     Ok(())
 }
 
-/// A frame cut at every bit; the first is one of the longest.
+/// A frame cut at every bit, then whole; the first is one of the longest.
 pub fn cut_frame(run: &mut Run, seed: u64, number: u64) -> Result<(), Stopped> {
     let mut random = Random::new(Random::new(seed ^ number.rotate_left(32)).bits64());
     let made = Made::of(match number {
         0 => Plan::longest(),
-        _ => Plan::random(random.bits64()),
+        _ => Plan::random_under(random.pick(&READINGS), random.bits64()),
     });
     start(run, &mut random).map_err(|difference| (difference, "fresh state".to_string()))?;
     every_cut(run, &made, &mut random)?;
-    let case = Case::of(&made, &run.state, random.pick(&READINGS));
+    let case = Case::of(&made, &run.state, random.pick(&made.plan.readings()));
     compare(run, &case, || "whole".to_string())
 }
 
-/// Cuts both strings at every bit.
+/// Cuts both strings at every bit, under readings that bar no step count of the plan: a step count at a
+/// barred place would be refused before the payload.
 pub fn every_cut(run: &mut Run, made: &Made, random: &mut Random) -> Result<(), Stopped> {
-    let shorten = random.flag();
+    let (shorten, readings) = (random.flag(), made.plan.readings());
     for (part, bits) in [
         (Part::Head, made.head.bits),
         (Part::Payload, made.payload.bits),
     ] {
         for at in 0..bits {
-            let mut case = Case::of(made, &run.state, random.pick(&READINGS));
+            let mut case = Case::of(made, &run.state, random.pick(&readings));
             cut(&mut case.input, part, at, shorten);
             case.done.push("cut at every bit");
             compare(run, &case, || format!("{part:?} cut to {at} bits"))?;

@@ -4,15 +4,18 @@ use crate::case::{Case, SLICES, slice_name};
 use oracle::FrameOutput;
 use oracle::generator::layout::{Layout, STEPS};
 use oracle::input::READINGS;
-use oracle::scope::Refusal;
+use oracle::phantom::{COUNTED, counted, on_amended_head};
+use oracle::scope::{Refusal, State};
 use std::collections::BTreeMap;
 
-/// What payloads are counted by. All but the first four count accepted ones.
-const KINDS: [&str; 14] = [
+/// What payloads are counted by. All but the first six count accepted ones.
+const KINDS: [&str; 16] = [
     "answer",
     "done",
     "wrong length",
     "reading",
+    "amended head",
+    "mono phantom",
     "accepted by reading",
     "layout",
     "base channels",
@@ -39,12 +42,21 @@ impl Coverage {
             self.add("wrong length", slice_name(slice));
         }
         self.add("reading", reading_name(case.input.reading));
-        match answer {
-            Err(refusal) => self.add("answer", format!("refusal {}", refusal.number)),
-            Ok(frame) => {
-                self.add("answer", "accepted");
-                self.accepted(case, frame);
-            }
+        self.add("answer", answer_name(answer));
+        self.phantom(case, answer);
+        if let Ok(frame) = answer {
+            self.accepted(case, frame);
+        }
+    }
+
+    /// Payloads judged on an amended head; mono bases with a phantom centre and second stereo.
+    fn phantom(&mut self, case: &Case, answer: &Result<FrameOutput, Refusal>) {
+        if on_amended_head(&case.input, answer) {
+            self.add("amended head", "all");
+            self.add("amended head", answer_name(answer));
+        }
+        for place in counted(&case.input, &State::fresh(), answer) {
+            self.add("mono phantom", COUNTED[*place]);
         }
     }
 
@@ -124,6 +136,17 @@ fn number(n: u32) -> String {
     format!("{n:5}")
 }
 
+fn answer_name(answer: &Result<FrameOutput, Refusal>) -> String {
+    match answer {
+        Ok(_) => "accepted".to_string(),
+        Err(refusal) => refusal_name(refusal.number),
+    }
+}
+
+fn refusal_name(number: u32) -> String {
+    format!("refusal {number}")
+}
+
 fn reading_name(reading: u32) -> String {
     match READINGS.contains(&reading) {
         true => reading.to_string(),
@@ -143,15 +166,18 @@ fn wanted() -> Vec<(&'static str, String)> {
         let layout = Layout::of(1 + k as usize % 2, k / 2 % 4, k / 8);
         layout_name(layout.front, layout.surround, layout.second_stereo)
     });
-    let refusals = [1, 2, 3, 4, 6, 8, 13].map(|n| format!("refusal {n}"));
-    let kinds: [(&'static str, Vec<String>); 14] = [
-        ("answer", vec!["accepted".to_string()]),
-        ("answer", refusals.to_vec()),
+    let words = |words: &[&str]| words.iter().map(|word| word.to_string()).collect();
+    let kinds: [(&'static str, Vec<String>); 17] = [
+        ("answer", words(&["accepted"])),
+        ("answer", [1, 2, 3, 4, 6, 8, 13].map(refusal_name).to_vec()),
         (
             "wrong length",
             (0..SLICES).map(|k| slice_name(k).to_string()).collect(),
         ),
         ("reading", [1, 2, 3].map(reading_name).to_vec()),
+        ("amended head", words(&["all", "accepted"])),
+        ("amended head", [1, 3, 4, 8].map(refusal_name).to_vec()),
+        ("mono phantom", words(&COUNTED)),
         ("accepted by reading", numbers(1..3)),
         ("layout", layouts.collect()),
         ("base channels", numbers(1..3)),

@@ -1,6 +1,6 @@
 //! Compares the proved unpacking with the published Rust, field by field: payloads of every layout,
-//! rate and class, whole, cut, damaged and wrongly lent, each under a reading drawn at random. Ends
-//! with status 1 at the first difference.
+//! rate and class, whole, cut, damaged and wrongly lent, each drawn and lent under readings at random.
+//! Ends with status 1 at the first difference.
 
 mod call;
 mod case;
@@ -61,11 +61,13 @@ impl Run {
         Ok(found & 0xFF)
     }
 
-    /// A payload whole, and copies of it that are spoiled.
+    /// A payload whole, then under each reading that bars one of its step counts, then copies of it
+    /// that are spoiled.
     fn piece(&mut self, seed: u64) -> Result<(), String> {
-        let made = Made::of(Plan::random(seed));
         let random = &mut Random::new(!seed);
+        let made = Made::of(Plan::random_under(random.pick(&READINGS), seed));
         self.whole(&made, random)?;
+        self.barred(&made)?;
         for _ in 0..SPOILED {
             let mut case = Case::of(&made, random.pick(&READINGS));
             spoil(random, &made, &mut case);
@@ -86,18 +88,33 @@ impl Run {
         }
     }
 
+    /// A payload as it is, under a reading that bars none of its step counts.
     fn whole(&mut self, made: &Made, random: &mut Random) -> Result<(), String> {
-        self.answered(made, &Case::of(made, random.pick(&READINGS)), 0)
+        let reading = random.pick(&made.plan.readings());
+        self.answered(made, &Case::of(made, reading), 0)
+    }
+
+    /// A payload as it is, under each reading that bars one of its step counts.
+    fn barred(&mut self, made: &Made) -> Result<(), String> {
+        for reading in READINGS {
+            if made.plan.barred_under(reading) {
+                let mut case = Case::of(made, reading);
+                case.done.push("barred step count");
+                self.answered(made, &case, 8)?;
+            }
+        }
+        Ok(())
     }
 
     /// Both strings of a payload cut at every bit: each is short, unless the centre code stops it.
     fn cut_at_every_bit(&mut self, made: &Made, random: &mut Random) -> Result<(), String> {
+        let readings = made.plan.readings();
         for (part, used) in [
             (Part::Head, made.head.bits),
             (Part::Payload, made.payload.bits),
         ] {
             for bits in 0..used {
-                let mut case = Case::of(made, random.pick(&READINGS));
+                let mut case = Case::of(made, random.pick(&readings));
                 cut(&mut case.input, part, bits, random.flag());
                 case.done.push("cut at every bit");
                 self.answered(made, &case, 1)?;
