@@ -1,12 +1,11 @@
--- What the tests for a place say of its definitions: each way through `carried`, `source_by`, `steps_by` and `own_by`.
-use mathlib.Core.Path.{_≡_, refl, _∙_}
-use mathlib.Core.Bool.{Bool, true, false, not}
+-- What the tests for a place say of its definitions: each way through `limit_by`, `source_by`, `steps_by` and `own_by`.
+use mathlib.Core.Path.{_≡_, _∙_}
+use mathlib.Core.Bool.{Bool, true, false}
 use mathlib.Core.List.{List}
 use Prim.Native.Nat.{ℕ, _+_, _*_, _/_, _%_, _≤_, _<_}
 use native.Mathlib.Omega.{arith}
 use lib.ListN.{length, getD, length-append, length-replicate}
-use lib.Dec.{ltb, leb}
-use borrow.Author.Tests.{lt-ltb, le-ltb, leb-true, leb-false, eq-eqb, ne-eqb}
+use borrow.Author.Tests.{lt-ltb, le-ltb, eq-eqb, ne-eqb}
 use mir.Syntax.{w8}
 use mir.Val.{Fits}
 use Rattle.mc_crosstalk.specs.Crosstalk
@@ -24,39 +23,27 @@ use Rattle.mc_roles.specs.Roles.{baseOf}
 use Rattle.mc_crosstalk.specs.declared.crosstalk.Sources.{Sources}
 use Rattle.mc_config.specs.declared.McConfig.{McConfig}
 use Rattle.mc_payload.specs.Places.{phantomLimit}
-use Rattle.mc_places.specs.PlacesBy.{carriedBy, sourceBy, groupSources, groupBases, groupAt, stepsBy, ownBy}
+use Rattle.mc_places.specs.PlacesBy.{limitBy, carriedBy, sourceBy, groupSources, groupBases, groupAt, stepsBy, ownBy}
 use Rattle.mc_places.specs.PlacesLaws.{sources-below, bases-below}
 
-below-not : (sb limit : ℕ) → ltb sb limit ≡ not (leb limit sb)
-below-not sb limit = go (leb limit sb) refl
-  where
-    go : (t : Bool) → leb limit sb ≡ t → ltb sb limit ≡ not (leb limit sb)
-    go true e = rw (e, le-ltb sb limit (leb-true limit sb e))
-    go false e = rw (e, lt-ltb sb limit (leb-false limit sb e))
-
-module _ (nmch : ℕ) (phantom : Bool) (limit m sb : ℕ) where
-  pub carried-beyond : nmch ≤ m → false ≡ carriedBy nmch phantom limit m sb
-  unfolding carriedBy
-  carried-beyond h = rw (le-ltb m nmch h)
+module _ (nmch : ℕ) (phantom : Bool) (limit m : ℕ) where
+  pub limit-none : nmch ≤ m → 0 ≡ limitBy nmch phantom limit m
+  unfolding limitBy
+  limit-none h = rw (le-ltb m nmch h)
 
   module _ (h : m < nmch) where
-    pub carried-above : limit ≤ sb → false ≡ carriedBy nmch phantom limit m sb
-    unfolding carriedBy
-    carried-above k = rw (lt-ltb m nmch h, le-ltb sb limit k)
+    pub limit-plain : phantom ≡ false → limit ≡ limitBy nmch phantom limit m
+    unfolding limitBy
+    limit-plain p = rw (lt-ltb m nmch h, p)
 
-    module _ (k : sb < limit) where
-      pub carried-plain : phantom ≡ false → true ≡ carriedBy nmch phantom limit m sb
-      unfolding carriedBy
-      carried-plain p = rw (lt-ltb m nmch h, lt-ltb sb limit k, p)
+    module _ (p : phantom ≡ true) where
+      pub limit-first : m ≡ 0 → phantomLimit ≡ limitBy nmch phantom limit m
+      unfolding limitBy
+      limit-first z = rw (lt-ltb m nmch h, p, eq-eqb m 0 z)
 
-      module _ (p : phantom ≡ true) where
-        pub carried-other : (m ≡ 0 → ⊥) → true ≡ carriedBy nmch phantom limit m sb
-        unfolding carriedBy
-        carried-other z = rw (lt-ltb m nmch h, lt-ltb sb limit k, p, ne-eqb m 0 z)
-
-        pub carried-first : m ≡ 0 → ltb sb phantomLimit ≡ carriedBy nmch phantom limit m sb
-        unfolding carriedBy
-        carried-first z = rw (lt-ltb m nmch h, lt-ltb sb limit k, p, eq-eqb m 0 z) (below-not sb phantomLimit)
+      pub limit-other : (m ≡ 0 → ⊥) → limit ≡ limitBy nmch phantom limit m
+      unfolding limitBy
+      limit-other z = rw (lt-ltb m nmch h, p, ne-eqb m 0 z)
 
 module _ (pair main mode second m : ℕ) (e : main ≡ mainOf pair) where
   pub main-fits : Fits w8 main
@@ -126,13 +113,13 @@ module _ (i g : ℕ) (e : g ≡ sbgrOf (i / 3)) where
   pub group-place : (t : List ℕ) → getD t (3 * g + i % 3) 0 ≡ groupAt t (i % 3) (i / 3)
   group-place t = rw e
 
-  module _ (nmch : ℕ) (phantom : Bool) (limit : ℕ) (there : Bool) (et : there ≡ carriedBy nmch phantom limit (i % 3) (i / 3)) (sources bases steps baseSteps : List ℕ) (r : ℕ) where
+  module _ (limits : List ℕ) (there : Bool) (et : there ≡ carriedBy limits (i % 3) (i / 3)) (sources bases steps baseSteps : List ℕ) (r : ℕ) where
     pub steps-place : r ≡ stepsBy steps baseSteps there (getD sources (3 * g + i % 3) 0) (getD bases (3 * g + i % 3) 0) (i % 3) (i / 3)
-        → r ≡ stepsBy steps baseSteps (carriedBy nmch phantom limit (i % 3) (i / 3)) (groupAt sources (i % 3) (i / 3)) (groupAt bases (i % 3) (i / 3)) (i % 3) (i / 3)
+        → r ≡ stepsBy steps baseSteps (carriedBy limits (i % 3) (i / 3)) (groupAt sources (i % 3) (i / 3)) (groupAt bases (i % 3) (i / 3)) (i % 3) (i / 3)
     steps-place h = rw (← et, ← e) h
 
     pub own-place : r ≡ ownBy steps there (getD sources (3 * g + i % 3) 0) (i % 3) (i / 3)
-        → r ≡ ownBy steps (carriedBy nmch phantom limit (i % 3) (i / 3)) (groupAt sources (i % 3) (i / 3)) (i % 3) (i / 3)
+        → r ≡ ownBy steps (carriedBy limits (i % 3) (i / 3)) (groupAt sources (i % 3) (i / 3)) (i % 3) (i / 3)
     own-place h = rw (← et, ← e) h
 
 -- ---- what the tables by group are made of, as the calls answer it

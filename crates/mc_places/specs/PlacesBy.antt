@@ -1,8 +1,8 @@
--- Places as the code builds them: sources and base channels by subband group, then the tables by place.
-use mathlib.Core.Bool.{Bool, not, _&&_, cond}
+-- Places as the code builds them: limits by channel, sources and base channels by subband group, then the tables by place.
+use mathlib.Core.Bool.{Bool, _&&_, cond}
 use mathlib.Core.List.{List}
 use Prim.Native.Nat.{ℕ, _+_, _*_, _/_, _%_}
-use lib.Dec.{eqb, ltb, leb}
+use lib.Dec.{eqb, ltb}
 use lib.ListN.{getD}
 use Rattle.fill.specs.Tab.{tab}
 use Rattle.mc_crosstalk.specs.Crosstalk
@@ -19,9 +19,17 @@ use Rattle.mc_payload.specs.Places.{phantomLimit, place, stepsOf, ownOf, source
 unfoldable pub placesOf : McSettings → Places
 placesOf s = record { steps = stepsOf s; own = ownOf s; source = sourcesOf s; base = basesOf s }
 
--- channel m in subband sb, by the number of channels, whether a phantom centre limits, and the subband limit
-unfoldable pub carriedBy : ℕ → Bool → ℕ → ℕ → ℕ → Bool
-carriedBy nmch phantom limit m sb = ltb m nmch && (ltb sb limit && not (phantom && (eqb m 0 && leb phantomLimit sb)))
+-- the first subband that channel m no longer has, by the number of channels, whether a phantom centre limits, and the subband limit; 0 for a
+-- channel that is not there
+unfoldable pub limitBy : ℕ → Bool → ℕ → ℕ → ℕ
+limitBy nmch phantom limit m = cond (ltb m nmch) (cond (phantom && eqb m 0) phantomLimit limit) 0
+
+unfoldable pub limitsBy : ℕ → Bool → ℕ → List ℕ
+limitsBy nmch phantom limit = tab (limitBy nmch phantom limit) 3
+
+-- channel m in subband sb
+unfoldable pub carriedBy : List ℕ → ℕ → ℕ → Bool
+carriedBy limits m sb = ltb sb (getD limits m 0)
 
 -- the source of channel m by the crosstalk code and the second stereo bit of a group
 unfoldable pub sourceBy : ℕ → ℕ → ℕ → ℕ → ℕ
@@ -49,11 +57,11 @@ stepsBy steps baseSteps there source base m sb =
 unfoldable pub ownBy : List ℕ → Bool → ℕ → ℕ → ℕ → ℕ
 ownBy steps there source m sb = cond (there && eqb source T) (getD steps (32 * m + sb) 0) 0
 
-unfoldable pub placesBy : ℕ → Bool → ℕ → List ℕ → List ℕ → List ℕ → List ℕ → Places
-placesBy nmch phantom limit sources bases steps baseSteps =
+unfoldable pub placesBy : List ℕ → List ℕ → List ℕ → List ℕ → List ℕ → Places
+placesBy limits sources bases steps baseSteps =
     record {
-      steps = tab (place (λ m sb. stepsBy steps baseSteps (carriedBy nmch phantom limit m sb) (groupAt sources m sb) (groupAt bases m sb) m sb)) 96;
-      own = tab (place (λ m sb. ownBy steps (carriedBy nmch phantom limit m sb) (groupAt sources m sb) m sb)) 96;
+      steps = tab (place (λ m sb. stepsBy steps baseSteps (carriedBy limits m sb) (groupAt sources m sb) (groupAt bases m sb) m sb)) 96;
+      own = tab (place (λ m sb. ownBy steps (carriedBy limits m sb) (groupAt sources m sb) m sb)) 96;
       source = tab (place (groupAt sources)) 96;
       base = tab (place (groupAt bases)) 96;
     }

@@ -3,7 +3,7 @@ ghost use mathlib.Core.Path.{_≡_};
 ghost use Prim.Native.Nat.{ℕ, _<_};
 ghost use lib.ListN.{getD};
 ghost use Rattle.mc_config.specs.Config.{mainOf};
-ghost use Rattle.mc_places.specs.PlacesBy.{carriedBy, sourceBy, groupSources, groupBases, stepsBy, ownBy, placesBy, placesOf};
+ghost use Rattle.mc_places.specs.PlacesBy.{limitBy, limitsBy, carriedBy, sourceBy, groupSources, groupBases, stepsBy, ownBy, placesBy, placesOf};
 use mc_config::McConfig;
 use mc_crosstalk::FROM_BASE;
 use mc_crosstalk::TRANSMITTED;
@@ -21,23 +21,36 @@ pub struct Places {
     pub base: [u8; 96],
 }
 
-// Whether channel m is there in subband sb; a phantom centre that limits bars the first channel from its limit on.
-fn carried(nmch: usize, phantom: bool, limit: usize, m: usize, sb: usize) -> bool
-    ensures { λ r. ⌜ r ≡ carriedBy nmch phantom limit m sb ⌝ }
+// The first subband that channel m no longer has, 0 for a channel that is not there; `phantom` is whether a phantom centre limits.
+fn limit_by(nmch: usize, phantom: bool, limit: usize, m: usize) -> usize
+    ensures { λ r. ⌜ r ≡ limitBy nmch phantom limit m ⌝ }
 {
     if nmch <= m {
-        return false;
-    }
-    if limit <= sb {
-        return false;
+        return 0;
     }
     if !phantom {
-        return true;
+        return limit;
     }
-    if m != 0 {
-        return true;
+    if m == 0 { PHANTOM_LIMIT } else { limit }
+}
+
+// The same of the three channels.
+fn limits_by(nmch: usize, phantom: bool, limit: usize) -> [usize; 3]
+    ensures { λ r. ⌜ r ≡ limitsBy nmch phantom limit ⌝ }
+{
+    let mut limits = [0usize; 3];
+    for m in 0usize..3 {
+        limits[m] = limit_by(nmch, phantom, limit, m);
     }
-    sb < PHANTOM_LIMIT
+    limits
+}
+
+// Whether channel m is there in subband sb.
+fn carried(limits: &[usize; 3], m: usize, sb: usize) -> bool
+    requires { ⌜ m < 3 ⌝ }
+    ensures { λ r. ⌜ r ≡ carriedBy (now (limits .entry)) m sb ⌝ }
+{
+    sb < limits[m]
 }
 
 // The source of channel m by the crosstalk code and the second stereo bit of a group.
@@ -124,16 +137,14 @@ fn own_by(steps: &[u32; 96], there: bool, source: u8, m: usize, sb: usize) -> u3
 
 // The tables by place, from those by group.
 fn by_place<'a>(
-    nmch: usize,
-    phantom: bool,
-    limit: usize,
+    limits: &[usize; 3],
     sources: &[u8; 36],
     bases: &[u8; 36],
     nb_steps: &'a [u32; 96],
     base_nb_steps: &'a [u32; 64],
 ) -> Places
     requires { ⌜ ((k : ℕ) → k < 36 → getD (now sources) k 0 < 5) × ((k : ℕ) → k < 36 → getD (now bases) k 0 < 2) ⌝ }
-    ensures { λ r. ⌜ r ≡ placesBy nmch phantom limit (now (sources .entry)) (now (bases .entry)) (now («nb_steps» .entry)) (now («base_nb_steps» .entry)) ⌝ }
+    ensures { λ r. ⌜ r ≡ placesBy (now (limits .entry)) (now (sources .entry)) (now (bases .entry)) (now («nb_steps» .entry)) (now («base_nb_steps» .entry)) ⌝ }
 {
     let mut steps = [0u32; 96];
     let mut own = [0u32; 96];
@@ -143,7 +154,7 @@ fn by_place<'a>(
         let m = i % 3;
         let sb = i / 3;
         let k = 3 * mc_groups::sbgr_of_subband(sb) + m;
-        let there = carried(nmch, phantom, limit, m, sb);
+        let there = carried(limits, m, sb);
         let from = sources[k];
         let copied = bases[k];
         steps[i] = steps_by(nb_steps, base_nb_steps, there, from, copied, m, sb);
@@ -171,13 +182,7 @@ pub fn places_of(s: McSettings) -> Places
         s.status.dyn_cross_lr,
         s.base_channels,
     );
-    by_place(
-        config.nmch,
-        mc_config::phantom_of(s.reading, config),
-        msblimit(s.rate),
-        &sources,
-        &bases,
-        &s.nb_steps,
-        &s.base_nb_steps,
-    )
+    let phantom = mc_config::phantom_of(s.reading, config);
+    let limits = limits_by(config.nmch, phantom, msblimit(s.rate));
+    by_place(&limits, &sources, &bases, &s.nb_steps, &s.base_nb_steps)
 }

@@ -56,17 +56,26 @@ pub fn sequence(run: &mut Run, seed: u64, number: u64) -> Result<(), Stopped> {
     Ok(())
 }
 
-/// A frame cut at every bit, then whole; the first is one of the longest.
+/// A frame cut at every bit, then whole; the first is one of the longest, the second one that reading 1
+/// refuses.
 pub fn cut_frame(run: &mut Run, seed: u64, number: u64) -> Result<(), Stopped> {
     let mut random = Random::new(Random::new(seed ^ number.rotate_left(32)).bits64());
     let made = Made::of(match number {
         0 => Plan::longest(),
+        1 => barred_under_1(&mut random),
         _ => Plan::random_under(random.pick(&READINGS), random.bits64()),
     });
     start(run, &mut random).map_err(|difference| (difference, "fresh state".to_string()))?;
     every_cut(run, &made, &mut random)?;
     let case = Case::of(&made, &run.state, random.pick(&made.plan.readings()));
     compare(run, &case, || "whole".to_string())
+}
+
+/// A mono base with a phantom centre, and a step count of second left from the limit on.
+fn barred_under_1(random: &mut Random) -> Plan {
+    let mut plans = std::iter::repeat_with(|| Plan::random_under(2, random.bits64()));
+    let barred = plans.find(|plan| plan.barred_under(1));
+    barred.expect("one plan in about a hundred is such")
 }
 
 /// Cuts both strings at every bit, under readings that bar no step count of the plan: a step count at a

@@ -11,13 +11,13 @@ use Rattle.mc_places.proofs.places.by_place.Statement.{statement}
 use Rattle.mc_places.proofs.places.by_place.Tie as tie
 
 abbrev Inv-loop : tie.InvT-loop
-Inv-loop nmch phantom limit sources bases nb-steps base-nb-steps steps₀ own₀ source₀ base₀ i₀ steps own source base i =
-    Filling (place (λ m sb. stepsBy nb-steps base-nb-steps (carriedBy nmch phantom limit m sb) (groupAt sources m sb) (groupAt bases m sb) m sb)) 96 steps₀ steps i
-    × (Filling (place (λ m sb. ownBy nb-steps (carriedBy nmch phantom limit m sb) (groupAt sources m sb) m sb)) 96 own₀ own i
+Inv-loop limits sources bases nb-steps base-nb-steps steps₀ own₀ source₀ base₀ i₀ steps own source base i =
+    Filling (place (λ m sb. stepsBy nb-steps base-nb-steps (carriedBy limits m sb) (groupAt sources m sb) (groupAt bases m sb) m sb)) 96 steps₀ steps i
+    × (Filling (place (λ m sb. ownBy nb-steps (carriedBy limits m sb) (groupAt sources m sb) m sb)) 96 own₀ own i
     × (Filling (place (groupAt sources)) 96 source₀ source i × Filling (place (groupAt bases)) 96 base₀ base i))
 
 abbrev μ-loop : tie.MeasureT-loop
-μ-loop nmch phantom limit sources bases nb-steps base-nb-steps steps₀ own₀ source₀ base₀ i₀ steps own source base i = 96 - i
+μ-loop limits sources bases nb-steps base-nb-steps steps₀ own₀ source₀ base₀ i₀ steps own source base i = 96 - i
 
 loop-holds : tie.Need-loop-holds Inv-loop μ-loop
 loop-holds c = (starts (omega arith), (starts (omega arith), (starts (omega arith), starts (omega arith))))
@@ -32,7 +32,7 @@ add-k : tie.Need-add-k Inv-loop μ-loop
 add-k c = let h = group-small _ _ (c .sbgr-of-subband .ensures) (omega arith) in omega arith
 
 carried-requires : tie.Need-carried-requires Inv-loop μ-loop
-carried-requires c κs = search needs
+carried-requires c κs = omega arith
 
 element-copy-out-from : tie.Need-element-copy-out-from Inv-loop μ-loop
 element-copy-out-from c = group-small _ _ (c .before .sbgr-of-subband .ensures) (omega arith)
@@ -82,9 +82,9 @@ loop-again c =
     let a = l .before .args in
     let e = g .sbgr-of-subband .ensures in
     let h = t .carried .ensures in (
-      more (l .loop .inv .0) (omega arith) (steps-place _ _ e _ _ _ _ h (a .sources .now) (a .bases .now) (a .nb-steps .now) (a .base-nb-steps .now) _ (c .before .steps-by .ensures)),
+      more (l .loop .inv .0) (omega arith) (steps-place _ _ e _ _ h (a .sources .now) (a .bases .now) (a .nb-steps .now) (a .base-nb-steps .now) _ (c .before .steps-by .ensures)),
       (
-        more (l .loop .inv .1 .0) (omega arith) (own-place _ _ e _ _ _ _ h (a .sources .now) (a .bases .now) (a .nb-steps .now) (a .base-nb-steps .now) _ (c .own-by .ensures)),
+        more (l .loop .inv .1 .0) (omega arith) (own-place _ _ e _ _ h (a .sources .now) (a .bases .now) (a .nb-steps .now) (a .base-nb-steps .now) _ (c .own-by .ensures)),
         (more (l .loop .inv .1 .1 .0) (omega arith) (group-place _ _ e (a .sources .now)), more (l .loop .inv .1 .1 .1) (omega arith) (group-place _ _ e (a .bases .now))),
       ),
     )

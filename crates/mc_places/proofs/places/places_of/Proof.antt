@@ -26,6 +26,9 @@ phantom-of-requires c κs = search needs
 msblimit-requires : tie.Need-msblimit-requires
 msblimit-requires c κs = search needs
 
+limits-by-requires : tie.Need-limits-by-requires
+limits-by-requires c κs = search needs
+
 by-place-requires : tie.Need-by-place-requires
 by-place-requires c κs = (search sources-small, search bases-small)
 
@@ -43,5 +46,6 @@ places-of-spec =
     group-bases-requires
     phantom-of-requires
     msblimit-requires
+    limits-by-requires
     by-place-requires
     returns)
