@@ -24,9 +24,8 @@ pub fn phantom_of(reading: u32, config: McConfig) -> bool
     if !config.phantom_centre {
         return false;
     }
-    if reading == 2 {
-        config.front == 3
-    } else {
-        true
+    if reading != 2 {
+        return true;
     }
+    config.front == 3
 }

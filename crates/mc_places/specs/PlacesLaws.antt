@@ -30,7 +30,7 @@ use Rattle.mc_places.specs.PlacesBy.{placesOf, limitBy, limitsBy, carrie
 limit-least : (rate : ℕ) → phantomLimit ≤ msblimit rate
 limit-least rate = cond-all (λ n. phantomLimit ≤ n) (eqb rate 48000) (lit≤ tt) (lit≤ tt)
 
--- below a channel's limit, for a subband limit above the phantom centre's
+-- below a channel's limit, for a subband limit that is not below the phantom centre's
 module _ (limit sb : ℕ) (h : phantomLimit ≤ limit) where
   below-limit : (channel phantom first : Bool)
       → ltb sb (cond channel (cond (phantom && first) phantomLimit limit) 0) ≡ (channel && (ltb sb limit && not (phantom && (first && leb phantomLimit sb))))
