@@ -38,11 +38,11 @@ fn limit_by(nmch: usize, phantom: bool, limit: usize, m: usize) -> usize
 fn limits_by(nmch: usize, phantom: bool, limit: usize) -> [usize; 3]
     ensures { λ r. ⌜ r ≡ limitsBy nmch phantom limit ⌝ }
 {
-    let mut limits = [0usize; 3];
-    for m in 0usize..3 {
-        limits[m] = limit_by(nmch, phantom, limit, m);
-    }
-    limits
+    [
+        limit_by(nmch, phantom, limit, 0),
+        limit_by(nmch, phantom, limit, 1),
+        limit_by(nmch, phantom, limit, 2),
+    ]
 }
 
 // Whether channel m is there in subband sb.

@@ -125,7 +125,7 @@ module _ (l : Lent) (w : Buffers) (st : McDecodeState) (head : List ℕ) (headBi
           rw (both-true (stringFits (l .head) (l .headBits)) _ (lent .1) .0, both-true (stringFits head headBits) _ other .0, lent .0)
 
       alike : Alike (settingsFor l h status) (settingsFor first (withoutPhantom h) status)
-      alike = rw (r, b) (alike-mono (l .rate) h status (l .lfe) (l .steps) (l .baseSteps))
+      alike = rw (r, b) (alike-mono (l .rate) status (l .lfe) (l .steps) (l .baseSteps) h)
 
 -- over two base channels every reading gives the frame of reading 1, unless the centre code stops it
 module _ (l : Lent) (w : Buffers) (st : McDecodeState) (fits : readingFits (l .reading) ≡ true) (n : l .baseChannels ≡ 1 → ⊥) (h : McHeader) (u : ℕ)
@@ -141,4 +141,4 @@ module _ (l : Lent) (w : Buffers) (st : McDecodeState) (fits : readingFits (l .r
       go : (o : Outcome (McHeader × (ℕ × McStatus))) → found l w st (l .head) (l .headBits) l o ≡ found l w st (l .head) (l .headBits) (underFirst l (l .head) (l .headBits)) o
       go (refused x) = refl
       go (accepted (h, (word, status)) used) =
-          heads-same l w st (l .head) (l .headBits) h h word word status used (alike-stereo (l .rate) h status (l .lfe) (l .steps) (l .baseSteps) (l .reading) (l .baseChannels) n)
+          heads-same l w st (l .head) (l .headBits) h h word word status used (alike-stereo (l .rate) status (l .lfe) (l .steps) (l .baseSteps) (l .reading) (l .baseChannels) h n)
