@@ -1,9 +1,15 @@
 /* koftabasin.h - the proved reader of Layer II multichannel extension frames (ISO/IEC 13818-3).
  *
  * `rt staticlib mc_frame` at the repository's root proves the reader and makes
- * target/staticlib/libmc_frame.a, which has mc_fresh_state and mc_decode_frame_reading. They allocate
- * nothing, keep nothing between calls but what is in the state, and may run in several threads on
- * different states and buffers. "Refusal N" is a number of the table below.
+ * target/staticlib/libmc_frame.a, which has mc_fresh_state_layout, mc_carry_state and
+ * mc_decode_frame_layout. They allocate nothing, keep nothing between calls but what is in the state,
+ * and may run in several threads on different states and buffers. "Refusal N" is a number of the table
+ * below.
+ *
+ * mc_fresh_state, mc_decode_frame_reading and mc_decode_frame are the names of before the state held a
+ * layout: here they are inline calls, so that older sources compile as they are. The library has no
+ * symbols of these names, so an object that was compiled against an older header, and has the older
+ * state, does not link.
  *
  * A slice is a pointer and, right after it, the number of its elements. The pointer is not null and is
  * aligned, even where the number is 0; the memory is the caller's, and the call keeps no pointer to it.
@@ -33,11 +39,39 @@ extern "C" {
 typedef struct McDecodeState {
     double pred_hist[576]; /* the base's last nine scaled slots, at (base * 32 + subband) * 9 + k */
     uint8_t layout_len;    /* output channels of the stream, 1 to 5; 0 before the first frame */
+    uint8_t layout;        /* 10 * front + surround code: 10 to 13, 20 to 23, 30 to 33; the code is the
+                              header's, 3 for a second stereo programme. 0 where only layout_len is
+                              known */
     uint32_t accepted;     /* accepted frames; stays at 4294967295 */
 } McDecodeState;
 
+#if defined(__cplusplus) && __cplusplus >= 201103L
+#define MC_STATIC_ASSERT(what) static_assert(what, #what)
+#elif defined(__STDC_VERSION__) && __STDC_VERSION__ >= 201112L
+#define MC_STATIC_ASSERT(what) _Static_assert(what, #what)
+#endif
+#ifdef MC_STATIC_ASSERT
+MC_STATIC_ASSERT(sizeof(McDecodeState) == 4616);
+MC_STATIC_ASSERT(offsetof(McDecodeState, pred_hist) == 0);
+MC_STATIC_ASSERT(offsetof(McDecodeState, layout_len) == 4608);
+MC_STATIC_ASSERT(offsetof(McDecodeState, layout) == 4609);
+MC_STATIC_ASSERT(offsetof(McDecodeState, accepted) == 4612);
+#undef MC_STATIC_ASSERT
+#endif
+
 /* Makes *state all zero, whatever it held. Returns 0. */
-uint32_t mc_fresh_state(McDecodeState *state);
+uint32_t mc_fresh_state_layout(McDecodeState *state);
+
+static inline uint32_t mc_fresh_state(McDecodeState *state) { return mc_fresh_state_layout(state); }
+
+/* Carries a stream over to another reading: layout becomes 0, so that the next frame is held to
+ * layout_len alone; pred_hist, layout_len and accepted stay as they are, bit for bit. Takes any state
+ * and looks at no value of pred_hist. Returns 0; or 6, and the state stays as it was, for a layout_len
+ * above 5, a layout that no header gives, or a layout_len that is not its layout's.
+ *
+ * A state may be lent under another reading without this. Under reading 2 a frame then has to have the
+ * layout that is held, where one is held. */
+uint32_t mc_carry_state(McDecodeState *state);
 
 /* Reads one frame.
  *
@@ -46,9 +80,10 @@ uint32_t mc_fresh_state(McDecodeState *state);
  *   payload        from the scfsi codes on; extension bytes are already joined
  *   head_bits, payload_bits  at most eight times the bytes; bits after the used ones do not matter
  *   reading        of the transfer guide, 1 or 2. Reading 1 is the standard's text, with centre code 2
- *                  as no centre; under reading 2 a header with centre code 2 is refusal 13, and over
- *                  one base channel centre code 3 bars no place, where reading 1 has no second left
- *                  from subband 12 on
+ *                  as no centre; under reading 2 a header with centre code 2 is refusal 13, over one
+ *                  base channel centre code 3 bars no place, where reading 1 has no second left from
+ *                  subband 12 on, and a stream keeps its layout, where under reading 1 it keeps its
+ *                  number of output channels
  *   rate           32000, 44100 or 48000
  *   base_channels  1 or 2
  *   raw_*          requantised base values, from -4 to 4
@@ -64,13 +99,13 @@ uint32_t mc_fresh_state(McDecodeState *state);
  *   output         subbands of the output channels, in the order left, right, centre, surround (left,
  *                  right), second left, second right, of those that there are; +0 in the rest
  *   lfe            LFE samples; +0 without an LFE allocation
- *   state          history, layout_len and accepted
+ *   state          history, layout_len and accepted; layout under reading 2, while reading 1 leaves it
  *
  * A refused frame leaves buffers and state as they were, but that refusal 5 has put the base's last
  * nine scaled slots into state->pred_hist.
  *
  * Returns one number: see the functions below. */
-uint64_t mc_decode_frame_reading(McDecodeState *state,
+uint64_t mc_decode_frame_layout(McDecodeState *state,
     const uint8_t *head, size_t head_len, size_t head_bits,
     const uint8_t *payload, size_t payload_len, size_t payload_bits,
     uint32_t reading, uint32_t rate, uint8_t base_channels,
@@ -82,8 +117,27 @@ uint64_t mc_decode_frame_reading(McDecodeState *state,
     double *raw, size_t raw_len, double *work, size_t work_len,
     double *output, size_t output_len, double *lfe, size_t lfe_len);
 
-/* The same under reading 1: the call as it was before there were readings. The library has no symbol
- * of this name any more, so an object that was compiled against the older header does not link. */
+/* The same, by its name of before the state held a layout. */
+static inline uint64_t mc_decode_frame_reading(McDecodeState *state,
+    const uint8_t *head, size_t head_len, size_t head_bits,
+    const uint8_t *payload, size_t payload_len, size_t payload_bits,
+    uint32_t reading, uint32_t rate, uint8_t base_channels,
+    const double *raw_left, size_t raw_left_len, const double *raw_right, size_t raw_right_len,
+    const double *scaled_left, size_t scaled_left_len,
+    const double *scaled_right, size_t scaled_right_len,
+    const uint32_t *base_nb_steps, size_t base_nb_steps_len, uint8_t lfe_allocation,
+    const uint32_t *nb_steps, size_t nb_steps_len,
+    double *raw, size_t raw_len, double *work, size_t work_len,
+    double *output, size_t output_len, double *lfe, size_t lfe_len)
+{
+    return mc_decode_frame_layout(state, head, head_len, head_bits, payload, payload_len, payload_bits,
+        reading, rate, base_channels, raw_left, raw_left_len, raw_right, raw_right_len,
+        scaled_left, scaled_left_len, scaled_right, scaled_right_len,
+        base_nb_steps, base_nb_steps_len, lfe_allocation, nb_steps, nb_steps_len,
+        raw, raw_len, work, work_len, output, output_len, lfe, lfe_len);
+}
+
+/* The same under reading 1: the call as it was before there were readings. */
 static inline uint64_t mc_decode_frame(McDecodeState *state,
     const uint8_t *head, size_t head_len, size_t head_bits,
     const uint8_t *payload, size_t payload_len, size_t payload_bits,
@@ -96,7 +150,7 @@ static inline uint64_t mc_decode_frame(McDecodeState *state,
     double *raw, size_t raw_len, double *work, size_t work_len,
     double *output, size_t output_len, double *lfe, size_t lfe_len)
 {
-    return mc_decode_frame_reading(state, head, head_len, head_bits, payload, payload_len, payload_bits,
+    return mc_decode_frame_layout(state, head, head_len, head_bits, payload, payload_len, payload_bits,
         1, rate, base_channels, raw_left, raw_left_len, raw_right, raw_right_len,
         scaled_left, scaled_left_len, scaled_right, scaled_right_len,
         base_nb_steps, base_nb_steps_len, lfe_allocation, nb_steps, nb_steps_len,
@@ -112,10 +166,12 @@ enum {
     MC_FORBIDDEN_DYN_CROSS_MODE = 2, /* unlisted crosstalk code: see mc_sbgr and mc_mode */
     MC_ML_LAYER3_UNSUPPORTED = 3,    /* the header says Layer III multilingual channels */
     MC_RESERVED_SCALEFACTOR = 4,     /* scalefactor code 63 */
-    MC_CONFIG_CHANGED = 5,           /* the stream's number of output channels is another */
+    MC_CONFIG_CHANGED = 5,           /* the stream's number of output channels is another; or, under
+                                        reading 2, its layout, where the state holds one */
     MC_INVALID_ARGUMENT = 6,         /* a length, bit count, reading, rate, base count, LFE
-                                        allocation, base step count or the state's layout_len is
-                                        out of its bounds */
+                                        allocation or base step count is out of its bounds; the
+                                        state's layout_len is above 5, its layout is one that no
+                                        header gives, or layout_len is not that layout's */
     MC_VALUE_OUT_OF_RANGE = 7,       /* a base or history value is beyond -4 to 4 or not a number */
     MC_INVALID_ALLOCATION = 8,       /* a step count that no class has or at an untransmitted place;
                                         an LFE allocation without LFE */

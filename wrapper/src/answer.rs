@@ -20,10 +20,12 @@ pub enum McError {
     MlLayer3Unsupported,
     /// A scalefactor has code 63.
     ReservedScalefactor,
-    /// The stream so far has another number of output channels.
+    /// The stream so far has another number of output channels, or, under reading 2 and where the state
+    /// knows it, another layout.
     ConfigChanged,
     /// A length, a bit count, the reading, the rate, the number of base channels, the LFE allocation, a
-    /// base step count or the state's layout length is out of its bounds.
+    /// base step count or the state's layout length is out of its bounds, or the state's layout is one
+    /// that no header gives or that has another length.
     InvalidArgument,
     /// A base or history value is beyond -4 to 4 or not a number.
     ValueOutOfRange,
@@ -63,10 +65,10 @@ impl fmt::Display for McError {
             McError::UnexpectedEnd => "a field passes the end of its string",
             McError::MlLayer3Unsupported => "Layer III multilingual channels are not supported",
             McError::ReservedScalefactor => "a scalefactor has the reserved code 63",
-            McError::ConfigChanged => "the number of output channels changed within the stream",
+            McError::ConfigChanged => "the output channels changed within the stream",
             McError::InvalidArgument => {
                 "a length, bit count, reading, rate, channel count, LFE allocation or base step count \
-                 is out of its bounds"
+                 is out of its bounds, or the state's layout is wrong"
             }
             McError::ValueOutOfRange => "a base or history value is beyond -4 to 4 or not a number",
             McError::InvalidAllocation => {

@@ -53,34 +53,52 @@ pub const OUTPUT: usize = 5760;
 /// The length of `Buffers::lfe`.
 pub const LFE: usize = 12;
 
-/// What passes from frame to frame.
+/// What passes from frame to frame: the base's last nine slots, the number of output channels, their
+/// layout where it is known, and the number of accepted frames. A state may be lent under another reading
+/// than before, as it is or after [`McState::carry`].
 #[derive(Debug, Clone, PartialEq)]
 pub struct McState(ffi::McDecodeState);
 
 impl McState {
     /// The state before the first frame of a stream.
     pub fn new() -> McState {
-        let mut state = McState::with([0.0; 576], 0, 0);
+        let mut state = McState::with([0.0; 576], 0, 0, 0);
         state.reset();
         state
     }
 
-    /// A state as it was: history, layout length and accepted frames. The reader refuses a history
-    /// value beyond -4 to 4 and a layout length beyond 5.
-    pub const fn with(pred_hist: [f64; 576], layout_len: u8, accepted: u32) -> McState {
+    /// A state as it was: history, layout length, layout and accepted frames. The reader refuses a
+    /// history value beyond -4 to 4, a layout length beyond 5, a layout that no header gives, and a
+    /// layout with another length than its own.
+    pub const fn with(pred_hist: [f64; 576], layout_len: u8, layout: u8, accepted: u32) -> McState {
         McState(ffi::McDecodeState {
             pred_hist,
             layout_len,
+            layout,
             accepted,
         })
     }
 
     /// Makes the state that of a new stream.
     pub fn reset(&mut self) {
-        // SAFETY: the reference is to a whole state, with the layout that the library has.
+        // SAFETY: the reference is to a whole state, with the fields where the library has them.
         unsafe {
-            ffi::mc_fresh_state(&mut self.0);
+            ffi::mc_fresh_state_layout(&mut self.0);
         }
+    }
+
+    /// Carries the state: keeps the history bit for bit, whatever its values, the layout length and the
+    /// accepted frames, and forgets the layout. It is called when a stream goes on under reading 2 with
+    /// what reading 1, or an earlier layout, left: the next frame may then have any layout of that
+    /// length, and any at all where the length is 0. A state may also be lent under another reading
+    /// without it; a known layout then stays what reading 2 compares.
+    ///
+    /// The one refusal is [`McError::InvalidArgument`], of a layout length beyond 5, a layout that no
+    /// header gives, or a layout with another length than its own; the state is then as it was.
+    pub fn carry(&mut self) -> Result<(), McError> {
+        // SAFETY: the reference is to a whole state, with the fields where the library has them.
+        let answer = unsafe { ffi::mc_carry_state(&mut self.0) };
+        Answer(answer.into()).result().map(|_| ())
     }
 
     /// The base's last nine scaled slots, at `(base * 32 + subband) * 9 + k`, oldest first.
@@ -91,6 +109,14 @@ impl McState {
     /// The number of output channels of the stream, 0 before its first frame.
     pub fn layout_len(&self) -> u8 {
         self.0.layout_len
+    }
+
+    /// The layout of the stream, 0 where it is not known, else 10 * front + surround code: front is 1 for
+    /// a mono base, 3 with a centre and 2 without, the surround code is the header's, 3 for a second
+    /// stereo programme. An accepted frame stores its layout under reading 2 and leaves this as it was
+    /// under reading 1.
+    pub fn layout(&self) -> u8 {
+        self.0.layout
     }
 
     /// Accepted frames.
@@ -118,7 +144,10 @@ pub struct Frame<'a> {
     pub payload_bits: usize,
     /// The reading of the transfer guide, 1 or 2. Reading 1 is the standard's text as the published
     /// Rust takes it. Under reading 2 a header with centre code 2 is refused, and centre code 3 bars no
-    /// place over one base channel, where reading 1 bars second left from subband 12 on.
+    /// place over one base channel, where reading 1 bars second left from subband 12 on. Reading 1
+    /// compares the number of output channels with the state's and leaves the state's layout as it was;
+    /// reading 2 compares the layout where the state knows it, else the number, and an accepted frame
+    /// stores its layout.
     pub reading: u32,
     /// 32,000, 44,100 or 48,000.
     pub rate: u32,
@@ -167,7 +196,7 @@ pub fn decode_packed(state: &mut McState, frame: &Frame<'_>, buffers: &mut Buffe
     // borrowed mutably and so overlaps nothing, and the library takes any lengths and numbers.
     #[rustfmt::skip]
     let answer = unsafe {
-        ffi::mc_decode_frame_reading(
+        ffi::mc_decode_frame_layout(
             &mut state.0,
             frame.head.as_ptr(), frame.head.len(), frame.head_bits,
             frame.payload.as_ptr(), frame.payload.len(), frame.payload_bits,

@@ -1,88 +1,17 @@
 //! Small frames through the library: an accepted one, each refusal, and what each leaves behind.
 
-use koftabasin::{Answer, Buffers, Frame, LFE, McError, McState, OUTPUT, RAW, Used, decode};
+mod lent;
 
-/// Owns what is lent. A stereo base at 48,000 Hz with no centre and no surround: 35 head bits, no
-/// payload.
-#[derive(Clone)]
-struct Lent {
-    head: Vec<u8>,
-    head_bits: usize,
-    payload: Vec<u8>,
-    reading: u32,
-    rate: u32,
-    base_channels: u8,
-    base: [Vec<f64>; 4],
-    base_nb_steps: Vec<u32>,
-    lfe_allocation: u8,
-    nb_steps: Vec<u32>,
-    written: [Vec<f64>; 4],
-}
+use koftabasin::{Answer, McError, McState, Used};
+use lent::{Lent, held, history_bits};
 
-impl Lent {
-    fn smallest() -> Lent {
-        Lent {
-            head: vec![0; 5],
-            head_bits: 35,
-            payload: vec![],
-            reading: 1,
-            rate: 48_000,
-            base_channels: 2,
-            base: [0.25, 0.5, -1.0, 2.0].map(|value| vec![value; 1152]),
-            base_nb_steps: vec![0; 64],
-            lfe_allocation: 0,
-            nb_steps: vec![0; 96],
-            written: [RAW, RAW, OUTPUT, LFE].map(|length| vec![7.0; length]),
-        }
-    }
-
-    /// The same over one base channel.
-    fn mono(mut self) -> Lent {
-        self.base_channels = 1;
-        self.base[1].clear();
-        self.base[3].clear();
-        self.base_nb_steps.truncate(32);
-        self
-    }
-
-    fn decode(&mut self, state: &mut McState) -> Result<Used, McError> {
-        let frame = Frame {
-            head: &self.head,
-            head_bits: self.head_bits,
-            payload: &self.payload,
-            payload_bits: 8 * self.payload.len(),
-            reading: self.reading,
-            rate: self.rate,
-            base_channels: self.base_channels,
-            raw_left: &self.base[0],
-            raw_right: &self.base[1],
-            scaled_left: &self.base[2],
-            scaled_right: &self.base[3],
-            base_nb_steps: &self.base_nb_steps,
-            lfe_allocation: self.lfe_allocation,
-            nb_steps: &self.nb_steps,
-        };
-        let [raw, work, output, lfe] = &mut self.written;
-        decode(
-            state,
-            &frame,
-            &mut Buffers {
-                raw,
-                work,
-                output,
-                lfe,
-            },
-        )
-    }
-
-    /// The frame is refused so, and leaves the buffers and the state alone.
-    fn refused(mut self, error: McError) {
-        let mut state = McState::with([0.5; 576], 2, 3);
-        let before = state.clone();
-        assert_eq!(self.decode(&mut state), Err(error));
-        assert!(self.written.iter().flatten().all(|&value| value == 7.0));
-        assert_eq!(state, before);
-    }
+/// The frame is refused so, and leaves the buffers and the state alone.
+fn refused(mut lent: Lent, error: McError) {
+    let mut state = McState::with([0.5; 576], 2, 20, 3);
+    let before = state.clone();
+    assert_eq!(lent.decode(&mut state), Err(error));
+    assert!(lent.untouched());
+    assert_eq!(state, before);
 }
 
 #[test]
@@ -100,24 +29,25 @@ fn smallest_frame_is_accepted_under_both_readings() {
             assert!(silent.iter().all(|value| value.to_bits() == 0));
         }
         assert_eq!((output[0], output[1152]), (-1.0, 2.0));
-        assert_eq!((state.layout_len(), state.accepted()), (2, 1));
+        let layout = if reading == 2 { 20 } else { 0 };
+        assert_eq!(held(&state), (2, layout, 1));
         assert_eq!((state.history()[287], state.history()[288]), (-1.0, 2.0));
     }
 }
 
 #[test]
 fn fresh_state_is_all_zero() {
-    let mut state = McState::with([-0.0; 576], 9, 9);
+    let mut state = McState::with([-0.0; 576], 9, 9, 9);
     state.reset();
-    assert!(state.history().iter().all(|value| value.to_bits() == 0));
-    assert_eq!((state.layout_len(), state.accepted()), (0, 0));
+    assert_eq!(history_bits(&state), [0; 576]);
+    assert_eq!(held(&state), (0, 0, 0));
 }
 
 #[test]
 fn short_head() {
     let mut lent = Lent::smallest();
     lent.head_bits = 34;
-    lent.refused(McError::UnexpectedEnd);
+    refused(lent, McError::UnexpectedEnd);
 }
 
 /// 3/2 with code 15 in groups 1, 3, and so on: centre 1, surround 2; after 32 bits the flags 110, tc 0,
@@ -130,7 +60,7 @@ fn unlisted_crosstalk_code() {
         lent.head[bit / 8] |= 0x80 >> (bit % 8);
     }
     lent.head_bits = 87;
-    lent.refused(McError::ForbiddenDynCrossMode { sbgr: 1, mode: 15 });
+    refused(lent, McError::ForbiddenDynCrossMode { sbgr: 1, mode: 15 });
 }
 
 /// Centre code 2 under this reading.
@@ -146,13 +76,13 @@ fn centre_code_2_is_taken_under_reading_1() {
     let mut state = McState::new();
     let used = centre_code_2(1).decode(&mut state);
     assert_eq!(used.map(|used| used.head_bits), Ok(35));
-    assert_eq!((state.layout_len(), state.accepted()), (2, 1));
+    assert_eq!(held(&state), (2, 0, 1));
 }
 
 #[test]
 fn centre_code_2_is_refused_under_reading_2() {
-    centre_code_2(2).refused(McError::UndefinedCentre);
-    centre_code_2(2).mono().refused(McError::UndefinedCentre);
+    refused(centre_code_2(2), McError::UndefinedCentre);
+    refused(centre_code_2(2).mono(), McError::UndefinedCentre);
 }
 
 /// After the header's 16 bits and before the check word.
@@ -165,7 +95,7 @@ fn undefined_centre_of_a_short_head() {
     ] {
         let mut lent = centre_code_2(reading);
         lent.head_bits = head_bits;
-        lent.refused(error);
+        refused(lent, error);
     }
 }
 
@@ -182,7 +112,7 @@ fn phantom_centre(reading: u32) -> Lent {
 
 #[test]
 fn phantom_centre_over_a_mono_base_bars_under_reading_1_alone() {
-    phantom_centre(1).refused(McError::InvalidAllocation);
+    refused(phantom_centre(1), McError::InvalidAllocation);
     let (mut lent, mut state) = (phantom_centre(2), McState::new());
     let used = Used {
         head_bits: 35,
@@ -193,14 +123,14 @@ fn phantom_centre_over_a_mono_base_bars_under_reading_1_alone() {
     let slots = |subband: usize| second_left[subband..].iter().step_by(32);
     assert!(slots(12).all(|&value| value != 0.0));
     assert!(slots(11).chain(slots(13)).all(|value| value.to_bits() == 0));
-    assert_eq!((state.layout_len(), state.accepted()), (3, 1));
+    assert_eq!(held(&state), (3, 13, 1));
 }
 
 #[test]
 fn layer_three_flag() {
     let mut lent = Lent::smallest();
     lent.head[1] = 4;
-    lent.refused(McError::MlLayer3Unsupported);
+    refused(lent, McError::MlLayer3Unsupported);
 }
 
 #[test]
@@ -209,16 +139,7 @@ fn reserved_scalefactor() {
     lent.head[0] = 4;
     lent.lfe_allocation = 1;
     lent.payload = vec![0xFC; 4];
-    lent.refused(McError::ReservedScalefactor);
-}
-
-#[test]
-fn changed_layout_stores_the_history() {
-    let (mut lent, mut state) = (Lent::smallest(), McState::with([0.5; 576], 5, 3));
-    assert_eq!(lent.decode(&mut state), Err(McError::ConfigChanged));
-    assert!(lent.written.iter().flatten().all(|&value| value == 7.0));
-    assert_eq!((state.layout_len(), state.accepted()), (5, 3));
-    assert_eq!((state.history()[0], state.history()[575]), (-1.0, 2.0));
+    refused(lent, McError::ReservedScalefactor);
 }
 
 /// Reading 257 has 1 in its lowest byte.
@@ -247,11 +168,8 @@ fn wrong_arguments() {
     for change in wrong {
         let mut lent = Lent::smallest();
         change(&mut lent);
-        lent.refused(McError::InvalidArgument);
+        refused(lent, McError::InvalidArgument);
     }
-    let mut state = McState::with([0.0; 576], 6, 0);
-    let answer = Lent::smallest().decode(&mut state);
-    assert_eq!(answer, Err(McError::InvalidArgument));
 }
 
 #[test]
@@ -260,11 +178,11 @@ fn wild_values() {
     for (channel, value) in [(0, above), (1, -above), (2, f64::NAN), (3, f64::INFINITY)] {
         let mut lent = Lent::smallest();
         lent.base[channel][1151] = value;
-        lent.refused(McError::ValueOutOfRange);
+        refused(lent, McError::ValueOutOfRange);
     }
     let mut history = [0.0; 576];
     history[575] = above;
-    let answer = Lent::smallest().decode(&mut McState::with(history, 0, 0));
+    let answer = Lent::smallest().decode(&mut McState::with(history, 0, 0, 0));
     assert_eq!(answer, Err(McError::ValueOutOfRange));
 }
 
@@ -272,10 +190,10 @@ fn wild_values() {
 fn wrong_allocations() {
     let mut lent = Lent::smallest();
     lent.nb_steps[95] = 3;
-    lent.refused(McError::InvalidAllocation);
+    refused(lent, McError::InvalidAllocation);
     let mut lent = Lent::smallest();
     lent.lfe_allocation = 1;
-    lent.refused(McError::InvalidAllocation);
+    refused(lent, McError::InvalidAllocation);
 }
 
 #[test]

@@ -12,6 +12,7 @@ use crate::frames::three_one;
 use crate::frames::three_two;
 use crate::frames::two_two;
 use crate::print::say;
+use crate::print::say_carried;
 use crate::print::say_found;
 use crate::print::say_number;
 use boundary_look::holds_until;
@@ -164,5 +165,64 @@ pub fn phantom_lines() {
         b"step count in a barred subband over two base channels, reading 2",
         stereo,
         fresh,
+    );
+}
+
+// A frame's line under a reading, and the state after it.
+fn read_line(name: &[u8], frame: Loan, reading: u32, state: McDecodeState) -> McDecodeState {
+    let mut loan = frame;
+    loan.reading = reading;
+    line(name, loan, state)
+}
+
+// The line of carrying, and the state after it.
+fn carry_line(name: &[u8], state: McDecodeState) -> McDecodeState {
+    let carried = state.carry();
+    say(name);
+    say_carried(state, carried);
+    say(b"\n");
+    carried.state
+}
+
+// 3/1 and 2/2, which have four channels each, through one state: a count under reading 1, a layout under reading 2 that reading 1 leaves, then carrying.
+fn held_lines(first: &[u8], start: McDecodeState) -> McDecodeState {
+    let one = read_line(first, three_one(0.25), 1, start);
+    let two = read_line(b"then 2/2, reading 1", two_two(0.5), 1, one);
+    let three = read_line(b"then 3/1, reading 2", three_one(0.75), 2, two);
+    let four = read_line(b"then 2/2, reading 2", two_two(0.125), 2, three);
+    let five = read_line(b"then 2/2, reading 1", two_two(0.375), 1, four);
+    let six = read_line(b"then 2/2, reading 2", two_two(0.625), 2, five);
+    carry_line(b"then carrying", six)
+}
+
+// A state that may not be lent: a frame on it, and carrying.
+fn wrong_lines(name: &[u8], carrying: &[u8], layout_len: u8, layout: u8) {
+    let mut state = McDecodeState::new();
+    state.layout_len = layout_len;
+    state.layout = layout;
+    line(name, three_two(0.5), state);
+    carry_line(carrying, state);
+}
+
+// Layouts that are held, and carrying.
+pub fn carry_lines() {
+    let fresh = McDecodeState::new();
+    let first = held_lines(b"3/1, reading 1", fresh);
+    let other = read_line(b"then 3/2, reading 2", three_two(0.875), 2, first);
+    let second = held_lines(b"then 3/1, reading 1", other);
+    read_line(b"then 2/2, reading 2", two_two(0.875), 2, second);
+    carry_line(b"fresh state, carrying", fresh);
+    wrong_lines(b"layout count 6", b"layout count 6, carrying", 6, 0);
+    wrong_lines(
+        b"layout 34 of 4 channels",
+        b"layout 34 of 4 channels, carrying",
+        4,
+        34,
+    );
+    wrong_lines(
+        b"layout 31 of 5 channels",
+        b"layout 31 of 5 channels, carrying",
+        5,
+        31,
     );
 }

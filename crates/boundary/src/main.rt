@@ -1,10 +1,11 @@
-// Runs the boundary frames of document 01 that are executed, each of the nine refusals, and centre code 2 and the phantom centre under both
-// readings, and writes a line on each: what the frame call answered, and what became of the buffers and of the state.
+// Runs the boundary frames of document 01 that are executed, each of the nine refusals, centre code 2 and the phantom centre under both readings,
+// and changes of reading with and without carrying, and writes a line on each: what the call answered, and what became of the buffers and of the state.
 mod frames;
 mod heads;
 mod lines;
 mod print;
 
+use lines::carry_lines;
 use lines::layout_lines;
 use lines::mono_lines;
 use lines::phantom_lines;
@@ -19,4 +20,5 @@ fn main() {
     refusal_lines();
     reading_lines();
     phantom_lines();
+    carry_lines();
 }

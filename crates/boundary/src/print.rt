@@ -1,5 +1,6 @@
 // Writes lines.
 ghost use mathlib.Core.Path.{_≡_};
+ghost use Rattle.boundary_look.specs.Look.{sameValues};
 ghost use Rattle.boundary_run.specs.Run.{storedBy};
 use boundary_look::is_stored;
 use boundary_look::same_values;
@@ -9,6 +10,8 @@ use boundary_run::Told;
 use boundary_run::in_numbers;
 use boundary_run::ramp;
 use libc::STDOUT_FILENO;
+use mc_state::CarriedState;
+use mc_state::CarryAnswer;
 use mc_state::McDecodeState;
 
 pub fn say(text: &[u8]) {
@@ -36,9 +39,14 @@ fn say_answer(answer: Told) {
     say_number(answer.second);
 }
 
+// The counts, and the layout where it is known.
 fn say_counts(state: McDecodeState) {
     say(b"layout count ");
     say_number(state.layout_len as usize);
+    if state.layout != 0 {
+        say(b", layout ");
+        say_number(state.layout as usize);
+    }
     say(b", accepted frames ");
     say_number(state.accepted as usize);
 }
@@ -56,12 +64,25 @@ fn stored(loan: Loan, state: McDecodeState) -> bool
     is_stored(&history, &left, &right)
 }
 
-// What became of the state.
-fn say_state(loan: Loan, before: McDecodeState, after: McDecodeState) {
+fn same_history(before: McDecodeState, after: McDecodeState) -> bool
+    ensures { λ r. ⌜ r ≡ sameValues (before .«pred_hist») (after .«pred_hist») ⌝ }
+{
     let old = before.pred_hist;
     let new = after.pred_hist;
-    let counts = (before.layout_len == after.layout_len) & (before.accepted == after.accepted);
-    if same_values(&old, &new) & counts {
+    same_values(&old, &new)
+}
+
+// Whether the counts and the layout are the same.
+fn same_counts(before: McDecodeState, after: McDecodeState) -> bool {
+    (before.layout_len == after.layout_len)
+        & (before.layout == after.layout)
+        & (before.accepted == after.accepted)
+}
+
+// What became of the state.
+fn say_state(loan: Loan, before: McDecodeState, after: McDecodeState) {
+    let counts = same_counts(before, after);
+    if same_history(before, after) & counts {
         say(b"; state as it was");
         return;
     }
@@ -86,4 +107,30 @@ pub fn say_found(loan: Loan, before: McDecodeState, found: Found) {
         say(b"; buffers as they were");
     }
     say_state(loan, before, state);
+}
+
+// What carrying answered, and what became of the state, without the line's end.
+pub fn say_carried(before: McDecodeState, carried: CarriedState) {
+    let answer = carried.answer;
+    let after = carried.state;
+    match answer {
+        CarryAnswer::Carried => {
+            say(b": carried");
+        }
+        CarryAnswer::Refused(e) => {
+            say(b": refusal ");
+            say_number(e.number() as usize);
+        }
+    }
+    let history = same_history(before, after);
+    if history & same_counts(before, after) {
+        say(b"; state as it was");
+        return;
+    }
+    if history {
+        say(b"; history as it was, ");
+    } else {
+        say(b"; history not as it was, ");
+    }
+    say_counts(after);
 }

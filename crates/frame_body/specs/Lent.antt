@@ -19,9 +19,9 @@ use Rattle.mc_state.specs.Frame.{Lent}
 use Rattle.mc_state.specs.declared.McDecodeState.{McDecodeState}
 use Rattle.mc_fields.specs.declared.McStatus.{McStatus}
 
--- the state that follows the opening
+-- the state that follows the opening, which has a count and no layout
 unfoldable pub stateOf : List ℕ → McDecodeState
-stateOf bytes = record { «pred_hist» = tab (valueAt bytes 5) 576; «layout_len» = numberAt bytes 0 1; accepted = numberAt bytes 1 4 }
+stateOf bytes = record { «pred_hist» = tab (valueAt bytes 5) 576; «layout_len» = numberAt bytes 0 1; layout = 0; accepted = numberAt bytes 1 4 }
 
 -- the elements from a to before e
 abbrev pub between : {A : Type 0} → ℕ → ℕ → List A → List A

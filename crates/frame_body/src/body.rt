@@ -119,7 +119,7 @@ pub fn layout_of(head: &[u8], bits: usize, base_channels: u8) -> Layout
     }
 }
 
-// The state that a file carries.
+// The state that a file carries; its layout is not known.
 pub fn state_of(bytes: &[u8]) -> McDecodeState
     ensures { λ r. ⌜ r ≡ stateOf (now (bytes .entry)) ⌝ }
 {
@@ -128,6 +128,7 @@ pub fn state_of(bytes: &[u8]) -> McDecodeState
     McDecodeState {
         pred_hist: history,
         layout_len: u8_at(bytes, 0),
+        layout: 0,
         accepted: u32_at(bytes, 1),
     }
 }

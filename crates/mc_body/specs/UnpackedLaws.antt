@@ -2,14 +2,17 @@
 use mathlib.Core.Path.{_≡_, sym, _∙_}
 use mathlib.Core.Bool.{Bool, true, false, not, cond}
 use mathlib.Core.List.{List}
-use Prim.Native.Nat.{ℕ, _≤_}
+use Prim.Native.Nat.{ℕ, _+_, _*_, _≤_}
 use native.Mathlib.Omega.{arith}
 use borrow.Author.Tests.{eq-eqb, ne-eqb, not-true, not-false}
 use lib.Ieee.{Float}
 use mir.Val.{Fits}
 use mir.Syntax.{w8}
 use Rattle.mc_config.specs.Config.{configOf}
+use Rattle.mc_config.specs.Records.{layoutRecord}
+use Rattle.mc_config.specs.declared.layout.Layout.{Layout}
 use Rattle.mc_config.specs.ConfigLaws.{layout-length}
+use Rattle.mc_config.specs.declared.McConfig.{McConfig}
 use Rattle.bits.specs.Syntax.{plain, accepted, refused, run}
 use Rattle.bits.specs.Yields.{accepted-yields}
 use Rattle.mc_error.specs.Error.{refusalOf}
@@ -30,7 +33,9 @@ use Rattle.mc_history.specs.History.{historyAt, historyOf}
 use Rattle.mc_finish.specs.Finish.{BaseFits}
 use Rattle.mc_state.specs.declared.McAnswer.the-variants.{Accepted, Refused}
 use Rattle.mc_state.specs.declared.McDecodeState.{McDecodeState}
-use Rattle.mc_state.specs.Frame.{Buffers, follows, verdictUnpacked, answerOf, written, buffersOf, oneMore, stateOf, afterUnpacked}
+use Rattle.mc_state.specs.Held.{layoutFor, followsBy, follows, layoutAfter}
+use Rattle.mc_state.specs.HeldLaws.{layout-small}
+use Rattle.mc_state.specs.Frame.{Buffers, verdictUnpacked, answerOf, written, buffersOf, oneMore, stateOf, afterUnpacked}
 use Rattle.mc_state.specs.Answer.{buffersFrom, afterOf}
 use Rattle.mc_state.specs.Long.{Long, Delayed}
 use Rattle.mc_body.specs.WriteLaws.{delayed}
@@ -49,6 +54,10 @@ module _ (s : McSettings) (l : Loan) (es : s ≡ settingsOf l) where
   unfolding settingsOf
   lfe-low h = rw es h
 
+  pub surround-low : l .header .surround ≤ 3 → s .header .surround ≤ 3
+  unfolding settingsOf
+  surround-low h = rw es h
+
   module _ (base : Base) (w : Buffers) (h : Long (l .baseChannels) base w) where
     pub base-fits : BaseFits s base
     unfolding settingsOf
@@ -59,8 +68,29 @@ pub history-same : (s : McSettings) (base : Base) (h : List Float) → h ≡ his
 unfolding historyOf historyAt
 history-same s base h e = e
 
-pub channels-fit : (s : McSettings) (n : ℕ) → n ≡ channels s → Fits w8 n
-channels-fit s n e = record { fits = omega (arith, e, layout-length (configOf (s .header) (s .«base_channels»))) }
+-- ---- the frame's layout
+
+pub count-fits : (k : McConfig) (l : Layout) → l ≡ layoutRecord k → Fits w8 (l .count)
+count-fits k l e = rw e (record { fits = omega (arith, layout-length k) })
+
+module _ (s : McSettings) (k : McConfig) (e : k ≡ configOf (s .header) (s .«base_channels»)) where
+  pub count-is : (l : Layout) → l ≡ layoutRecord k → l .count ≡ channels s
+  count-is l el = rw (el, e)
+
+  module _ (h : s .header .surround ≤ 3) where
+    number-small : 10 * k .front + s .header .surround ≤ 33
+    number-small = rw e (layout-small s h)
+
+    pub tens-fit : Fits w8 (10 * k .front)
+    tens-fit = record { fits = omega (arith, number-small) }
+
+    pub number-fits : Fits w8 (10 * k .front + s .header .surround)
+    number-fits = record { fits = omega (arith, number-small) }
+
+    pub number-is : 10 * k .front + s .header .surround ≡ layoutFor s
+    number-is = rw e
+
+-- ---- what is written
 
 pub written-is : (s : McSettings) (c : Codes) (base : Base) (history raw work output lfe : List Float)
     → raw ≡ rawOf s c → work ≡ workOf s (recordOf s c) base history → output ≡ outputOf s base work → lfe ≡ lfeOf (s .«lfe_allocation») c
@@ -104,19 +134,20 @@ module _ (st : McDecodeState) (headUsed : ℕ) (base : Base) (w : Buffers) (s : 
     unfolding afterUnpacked verdictUnpacked answerOf buffersOf stateOf
     after-refused z e ee = rw (← es, is-refused s payload bits codes o z, ee)
 
-    module _ (z : codes .cursor .err ≡ 0) (n : ℕ) (en : n ≡ channels s) (h : List Float) (eh : h ≡ historyOf s base) (b : Bool) (eb : b ≡ follows (st .«layout_len») n) where
+    module _ (z : codes .cursor .err ≡ 0) (n : ℕ) (en : n ≡ channels s) (own : ℕ) (el : own ≡ layoutFor s) (h : List Float) (eh : h ≡ historyOf s base) (b : Bool)
+        (eb : b ≡ followsBy (s .reading) (st .«layout_len») (st .layout) n own) where
       pub after-changed : not b ≡ true
-          → afterOf (record { answer = Refused ConfigChanged; state = record { «pred_hist» = h; «layout_len» = st .«layout_len»; accepted = st .accepted } }) w
+          → afterOf (record { answer = Refused ConfigChanged; state = record { «pred_hist» = h; «layout_len» = st .«layout_len»; layout = st .layout; accepted = st .accepted } }) w
           ≡ afterUnpacked st s′ headUsed payload bits base w
-      unfolding afterUnpacked verdictUnpacked answerOf buffersOf stateOf
+      unfolding afterUnpacked verdictUnpacked answerOf buffersOf stateOf follows
       after-changed t =
-          let f : follows (st .«layout_len») (channels s) ≡ false = rw (← en, ← eb) (not-true b t) in
+          let f : followsBy (s .reading) (st .«layout_len») (st .layout) (channels s) (layoutFor s) ≡ false = rw (← en, ← el, ← eb) (not-true b t) in
           rw (← es, is-accepted s payload bits codes o z, f, eh)
 
-      pub after-accepted : not b ≡ false → (a : ℕ) → a ≡ oneMore (st .accepted) → (w′ : Buffers) → w′ ≡ written s (Outcome.codesOf codes) base (st .«pred_hist»)
-          → afterOf (record { answer = Accepted headUsed (codes .cursor .at); state = record { «pred_hist» = h; «layout_len» = n; accepted = a } }) w′
+      pub after-accepted : not b ≡ false → (k : ℕ) → k ≡ layoutAfter (s .reading) (st .layout) own → (a : ℕ) → a ≡ oneMore (st .accepted) → (w′ : Buffers) → w′ ≡ written s (Outcome.codesOf codes) base (st .«pred_hist»)
+          → afterOf (record { answer = Accepted headUsed (codes .cursor .at); state = record { «pred_hist» = h; «layout_len» = n; layout = k; accepted = a } }) w′
           ≡ afterUnpacked st s′ headUsed payload bits base w
-      unfolding afterUnpacked verdictUnpacked answerOf buffersOf stateOf
-      after-accepted t a ea w′ ew =
-          let f : follows (st .«layout_len») (channels s) ≡ true = rw (← en, ← eb) (not-false b t) in
-          rw (← es, is-accepted s payload bits codes o z, f, eh, en, ea, ew)
+      unfolding afterUnpacked verdictUnpacked answerOf buffersOf stateOf follows
+      after-accepted t k ek a ea w′ ew =
+          let f : followsBy (s .reading) (st .«layout_len») (st .layout) (channels s) (layoutFor s) ≡ true = rw (← en, ← el, ← eb) (not-false b t) in
+          rw (← es, is-accepted s payload bits codes o z, f, eh, ek, en, el, ea, ew)

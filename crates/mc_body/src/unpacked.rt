@@ -5,7 +5,8 @@ ghost use Rattle.mc_payload.specs.Unpack.{loanBy, settingsOf};
 ghost use Rattle.mc_output.specs.Output.{channels};
 ghost use Rattle.mc_base.specs.Base.{baseFrom};
 ghost use Rattle.mc_state.specs.Answer.{buffersFrom, afterOf};
-ghost use Rattle.mc_state.specs.Frame.{follows, afterUnpacked};
+ghost use Rattle.mc_state.specs.Frame.{afterUnpacked};
+ghost use Rattle.mc_state.specs.Held.{layoutFor};
 ghost use Rattle.mc_state.specs.Long.{Long};
 use crate::write::finish_payload;
 use crate::write::write_samples;
@@ -19,27 +20,27 @@ use mc_payload::McSettings;
 use mc_state::Framed;
 use mc_state::McAnswer;
 use mc_state::McDecodeState;
+use mc_state::layout_after;
+use mc_state::layout_follows;
 use mc_state::one_more;
 use mc_unpack::error_of;
 use mc_unpack::read_mc_payload;
 
-// Whether a layout of so many channels may follow on the state's.
-fn layout_follows(layout_len: u8, n: usize) -> bool
-    ensures { λ r. ⌜ r ≡ follows «layout_len» n ⌝ }
-{
-    if layout_len == 0 {
-        return true;
-    }
-    (layout_len as usize) == n
+// A frame's number of output channels, and its layout by number.
+struct FrameLayout {
+    count: u8,
+    number: u8,
 }
 
-// Output channels of the layout.
-fn channel_count(s: McSettings) -> usize
-    ensures { λ r. ⌜ r ≡ channels s ⌝ }
+fn frame_layout(s: McSettings) -> FrameLayout
+    requires { ⌜ s .header .surround ≤ 3 ⌝ }
+    ensures { λ r. ⌜ (r .count ≡ channels s) × (r .number ≡ layoutFor s) ⌝ }
 {
-    McConfig::from_header(s.header, s.base_channels)
-        .layout()
-        .count
+    let config = McConfig::from_header(s.header, s.base_channels);
+    FrameLayout {
+        count: config.layout().count as u8,
+        number: 10 * config.front + s.header.surround,
+    }
 }
 
 // The frame from its payload on.
@@ -66,7 +67,7 @@ pub fn unpacked_frame<'a>(
     lfe: &mut [f64],
 ) -> Framed
     requires { ⌜ Long «base_channels» (baseFrom (now «raw_left») (now «raw_right») (now «scaled_left») (now «scaled_right»)) (buffersFrom (now raw) (now work) (now output) (now lfe)) ⌝ }
-    requires { ⌜ «lfe_allocation» ≤ 15 ⌝ }
+    requires { ⌜ («lfe_allocation» ≤ 15) × (header .surround ≤ 3) ⌝ }
     ensures { λ r. ⌜ afterOf r (buffersFrom (now (raw .exit)) (now (work .exit)) (now (output .exit)) (now (lfe .exit))) ≡ afterUnpacked state (settingsOf (loanBy reading rate «base_channels» header status «lfe_allocation» (now («nb_steps» .entry)) (now («base_nb_steps» .entry)))) «head_bits» (now (payload .entry)) «payload_bits» (baseFrom (now («raw_left» .entry)) (now («raw_right» .entry)) (now («scaled_left» .entry)) (now («scaled_right» .entry))) (buffersFrom (now (raw .entry)) (now (work .entry)) (now (output .entry)) (now (lfe .entry))) ⌝ }
 {
     let s = settings(
@@ -87,15 +88,17 @@ pub fn unpacked_frame<'a>(
             state,
         };
     }
-    let n = channel_count(s);
+    let own = frame_layout(s);
     let next = history(s, scaled_left, scaled_right);
-    let layout_len = state.layout_len;
-    if !layout_follows(layout_len, n) {
+    let count = state.layout_len;
+    let layout = state.layout;
+    if !layout_follows(s.reading, count, layout, own.count, own.number) {
         return Framed {
             answer: McAnswer::Refused(McError::ConfigChanged),
             state: McDecodeState {
                 pred_hist: next,
-                layout_len,
+                layout_len: count,
+                layout,
                 accepted: state.accepted,
             },
         };
@@ -120,7 +123,8 @@ pub fn unpacked_frame<'a>(
         },
         state: McDecodeState {
             pred_hist: next,
-            layout_len: n as u8,
+            layout_len: own.count,
+            layout: layout_after(s.reading, layout, own.number),
             accepted: one_more(state.accepted),
         },
     }

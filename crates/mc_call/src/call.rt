@@ -1,9 +1,11 @@
-// The frame call on a state that is lent: the state is updated in place.
+// The frame call and carrying on a state that is lent: the state is updated in place.
 ghost use mathlib.Core.Path.{_≡_};
 ghost use Rattle.mc_base.specs.Base.{baseFrom};
-ghost use Rattle.mc_state.specs.Answer.{lentOf, buffersFrom, afterBy};
+ghost use Rattle.mc_state.specs.Answer.{lentOf, buffersFrom, afterBy, carryingOf};
+ghost use Rattle.mc_state.specs.Carry.{carriedOver};
 ghost use Rattle.mc_state.specs.Frame.{frameOf};
 use mc_decode::frame_by_value;
+use mc_state::CarryAnswer;
 use mc_state::McAnswer;
 use mc_state::McDecodeState;
 
@@ -52,6 +54,15 @@ pub fn decode_mc_frame<'s, 'h, 'p, 'a, 'b, 'n, 'r, 'w, 'o, 'l>(
         output,
         lfe,
     );
+    *state = t.state;
+    t.answer
+}
+
+// Carries the state over to another reading: of a layout it keeps the count. A refusal, 6 for a wrong count or layout, leaves the state as it was.
+pub fn carry_mc_state<'s>(state: &'s mut McDecodeState) -> CarryAnswer
+    ensures { λ r. ⌜ carryingOf r (now (state .exit)) ≡ carriedOver (now (state .entry)) ⌝ }
+{
+    let t = (*state).carry();
     *state = t.state;
     t.answer
 }

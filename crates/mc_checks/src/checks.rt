@@ -5,6 +5,7 @@ ghost use Rattle.mc_state.specs.Answer.{lentOf};
 ghost use Rattle.mc_state.specs.Frame.{rightLength, valuesLong, roomFits, lentBy, allFit, valuesFit};
 use mc_fields::string_fits;
 use mc_loan::loan_fits;
+use mc_state::held_fits;
 
 // Whether each value is within -4 to 4; not a number is not.
 pub fn all_fit(xs: &[f64]) -> bool
@@ -80,9 +81,10 @@ pub fn lent_fits(
     work: usize,
     output: usize,
     lfe: usize,
-    layout_len: u8,
+    count: u8,
+    layout: u8,
 ) -> bool
-    ensures { λ r. ⌜ r ≡ lentBy (lentOf (now (head .entry)) «head_bits» (now (payload .entry)) «payload_bits» reading rate «base_channels» (baseFrom (now («raw_left» .entry)) (now («raw_right» .entry)) (now («scaled_left» .entry)) (now («scaled_right» .entry))) (now («base_nb_steps» .entry)) «lfe_allocation» (now («nb_steps» .entry))) raw work output lfe «layout_len» ⌝ }
+    ensures { λ r. ⌜ r ≡ lentBy (lentOf (now (head .entry)) «head_bits» (now (payload .entry)) «payload_bits» reading rate «base_channels» (baseFrom (now («raw_left» .entry)) (now («raw_right» .entry)) (now («scaled_left» .entry)) (now («scaled_right» .entry))) (now («base_nb_steps» .entry)) «lfe_allocation» (now («nb_steps» .entry))) raw work output lfe count layout ⌝ }
 {
     let strings = string_fits(head, head_bits);
     let payloads = string_fits(payload, payload_bits);
@@ -102,5 +104,6 @@ pub fn lent_fits(
         scaled_right.len(),
     );
     let room = room_fits(raw, work, output, lfe);
-    strings & (payloads & (loan & (values & (room & (layout_len <= 5)))))
+    let held = held_fits(count, layout);
+    strings & (payloads & (loan & (values & (room & held))))
 }

@@ -29,7 +29,7 @@ front-length front =
     cond-all (λ xs. (1 ≤ length xs) × (length xs ≤ 3)) (eqb front 1) (omega arith)
     (cond-all (λ xs. (1 ≤ length xs) × (length xs ≤ 3)) (eqb front 3) (omega arith) (omega arith))
 
-surround-length : (surround : ℕ) (second : Bool) → length (surroundChannels surround second) ≤ 2
+pub surround-length : (surround : ℕ) (second : Bool) → length (surroundChannels surround second) ≤ 2
 surround-length surround second =
     cond-all (λ xs. length xs ≤ 2) (eqb surround 2) (lit≤ tt)
     (cond-all (λ xs. length xs ≤ 2) (eqb surround 1) (lit≤ tt) (cond-all (λ xs. length xs ≤ 2) second (lit≤ tt) (lit≤ tt)))

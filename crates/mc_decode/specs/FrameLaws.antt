@@ -9,7 +9,9 @@ use Rattle.mc_error.specs.declared.McError.{McError}
 use Rattle.mc_error.specs.declared.McError.the-variants.{InvalidArgument, ValueOutOfRange}
 use Rattle.mc_head.specs.Answer
 use Rattle.mc_config.specs.Reading.{readingFits}
+use Rattle.mc_fields.specs.HeadYields.{header-fits}
 use Rattle.mc_fields.specs.Lent.{stringFits, baseFits, headOf}
+use Rattle.mc_fields.specs.LentLaws.{lent-accepted}
 use Rattle.mc_head.specs.declared.HeadAnswer.the-variants.{Accepted as HeadAccepted, Refused as HeadRefused}
 use Rattle.mc_head.specs.declared.McHead.{McHead}
 use Rattle.mc_payload.specs.Unpack.{rateFits, loanFits, settingsOf, loanBy}
@@ -79,6 +81,11 @@ module _ (l : Lent) (w : Buffers) (st : McDecodeState) (a : Bool) (ea : a ≡ le
         pub after-head : (e : McError) → h .answer ≡ HeadRefused e → afterOf (record { answer = Refused e; state = st }) w ≡ frameOf l w st
         unfolding frameOf verdictOf verdictHead answerOf buffersOf stateOf
         after-head e q = rw (← ea, not-false a ta, ← eb, not-false b tb, ← eh, q)
+
+        pub surround-low : (used : ℕ) → h .answer ≡ HeadAccepted used → h .header .surround ≤ 3
+        surround-low used q =
+            header-fits (l .reading) (l .baseChannels) (l .head) (l .headBits) 0 (h .header) (h .«check_word») (h .status) used
+            (lent-accepted (l .reading) (l .head) (l .headBits) (l .baseChannels) (h .header, (h .«check_word», h .status)) used (sym eh ∙ rw q)) .surround
 
         pub after-payload : (used : ℕ) → h .answer ≡ HeadAccepted used → (r : After)
             → r ≡ afterUnpacked st (settingsOf (loanBy (l .reading) (l .rate) (l .baseChannels) (h .header) (h .status) (l .lfe) (l .steps) (l .baseSteps))) used (l .payload) (l .payloadBits) (l .base) w

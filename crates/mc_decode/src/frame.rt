@@ -57,6 +57,7 @@ pub fn frame<'h, 'p, 'a, 'b, 'n, 'r, 'w, 'o, 'l>(
         output.len(),
         lfe.len(),
         state.layout_len,
+        state.layout,
     ) {
         return Framed {
             answer: McAnswer::Refused(McError::InvalidArgument),

@@ -1,14 +1,16 @@
 // The functions for C; include/koftabasin.h declares them.
 ghost use mathlib.Core.Path.{_≡_};
 ghost use Rattle.mc_base.specs.Base.{baseFrom};
-ghost use Rattle.mc_state.specs.Answer.{lentOf, buffersFrom, packedBy, packedOf};
+ghost use Rattle.mc_state.specs.Answer.{lentOf, buffersFrom, packedBy, packedOf, carryingBy};
+ghost use Rattle.mc_state.specs.Carry.{carriedOver};
 ghost use Rattle.mc_state.specs.Frame.{fresh, frameOf};
+use mc_pack::carried;
 use mc_pack::packed_frame;
 use mc_pack::renewed;
 use mc_state::McDecodeState;
 
 #[no_mangle]
-pub extern "C" fn mc_decode_frame_reading<'s, 'h, 'p, 'a, 'b, 'n, 'r, 'w, 'o, 'l>(
+pub extern "C" fn mc_decode_frame_layout<'s, 'h, 'p, 'a, 'b, 'n, 'r, 'w, 'o, 'l>(
     state: &'s mut McDecodeState,
     head: &'h [u8],
     head_bits: usize,
@@ -58,10 +60,20 @@ pub extern "C" fn mc_decode_frame_reading<'s, 'h, 'p, 'a, 'b, 'n, 'r, 'w, 'o, 'l
 
 // Makes the state fresh; the answer is 0.
 #[no_mangle]
-pub extern "C" fn mc_fresh_state<'s>(state: &'s mut McDecodeState) -> u32
+pub extern "C" fn mc_fresh_state_layout<'s>(state: &'s mut McDecodeState) -> u32
     ensures { λ r. ⌜ (r ≡ 0) × (now (state .exit) ≡ fresh) ⌝ }
 {
     let t = renewed(*state);
+    *state = t.state;
+    t.answer
+}
+
+// Carries the state over to another reading; the answer is 0, or 6 and the state as it was.
+#[no_mangle]
+pub extern "C" fn mc_carry_state<'s>(state: &'s mut McDecodeState) -> u32
+    ensures { λ r. ⌜ carryingBy r (now (state .exit)) ≡ carriedOver (now (state .entry)) ⌝ }
+{
+    let t = carried(*state);
     *state = t.state;
     t.answer
 }

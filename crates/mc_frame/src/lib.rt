@@ -1,6 +1,7 @@
-// The frame call and a fresh state for C.
+// The frame call, a fresh state and a carried one for C.
 
 mod export;
 
-pub use export::mc_decode_frame_reading;
-pub use export::mc_fresh_state;
+pub use export::mc_carry_state;
+pub use export::mc_decode_frame_layout;
+pub use export::mc_fresh_state_layout;

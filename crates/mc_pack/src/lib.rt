@@ -1,9 +1,11 @@
-// The frame call's answer as one number, and a fresh state in place of another: what the functions for C commit.
+// The frame call's answer as one number, a fresh state in place of another, and a carried one: what the functions for C commit.
 ghost use mathlib.Core.Path.{_≡_};
 ghost use Rattle.mc_base.specs.Base.{baseFrom};
-ghost use Rattle.mc_state.specs.Answer.{lentOf, buffersFrom, outcomeOf, packed, packedBy, packedOf};
+ghost use Rattle.mc_state.specs.Answer.{lentOf, buffersFrom, outcomeOf, packed, packedBy, packedOf, carryNumber, carryingBy};
+ghost use Rattle.mc_state.specs.Carry.{carriedOver};
 ghost use Rattle.mc_state.specs.Frame.{fresh, frameOf};
 use mc_decode::frame_by_value;
+use mc_state::CarryAnswer;
 use mc_state::McAnswer;
 use mc_state::McDecodeState;
 
@@ -82,6 +84,7 @@ pub fn packed_frame<'h, 'p, 'a, 'b, 'n, 'r, 'w, 'o, 'l>(
     }
 }
 
+// An answer, 0 or a refusal's number, and the state after it.
 pub struct Refreshed {
     pub answer: u32,
     pub state: McDecodeState,
@@ -94,5 +97,27 @@ pub fn renewed(_state: McDecodeState) -> Refreshed
     Refreshed {
         answer: 0,
         state: McDecodeState::new(),
+    }
+}
+
+fn number_of(answer: CarryAnswer) -> u32
+    ensures { λ r. ⌜ r ≡ carryNumber answer ⌝ }
+{
+    match answer {
+        CarryAnswer::Carried => 0,
+        CarryAnswer::Refused(e) => e.number(),
+    }
+}
+
+// A state carried over to another reading.
+pub fn carried(state: McDecodeState) -> Refreshed
+    ensures { λ r. ⌜ carryingBy (r .answer) (r .state) ≡ carriedOver state ⌝ }
+{
+    let t = state.carry();
+    let answer = t.answer;
+    let next = t.state;
+    Refreshed {
+        answer: number_of(answer),
+        state: next,
     }
 }

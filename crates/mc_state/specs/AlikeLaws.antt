@@ -1,12 +1,16 @@
--- Settings that are alike give the same frame, from the payload on.
-use mathlib.Core.Path.{_≡_, refl, ap}
-use mathlib.Core.Bool.{Bool, true, false, cond}
+-- Settings that are alike give the same frame from the payload on, but for the layout that is held.
+use mathlib.Core.Path.{_≡_, refl, sym, ap, _∙_}
+use mathlib.Core.Bool.{Bool, true, false, cond, or-true}
 use mathlib.Core.List.{List}
-use Prim.Native.Nat.{ℕ, zero, suc, _*_, _/_, _%_}
+use mathlib.Core.Logic.{_⊎_, inl, inr, ⊎-elim}
+use Prim.Native.Nat.{ℕ, zero, suc, _*_, _/_, _%_, _≤_}
+use native.Mathlib.Omega.{arith}
+use borrow.Author.Tests.{eq-eqb}
+use lib.Dec.{eqb}
 use lib.Ieee.{Float}
 use lib.ListN.{length}
 use Rattle.fill.specs.TabLaws.{tab-same}
-use Rattle.bits.specs.Syntax.{Outcome, accepted, refused}
+use Rattle.bits.specs.Syntax.{plain, Outcome, accepted, refused}
 use Rattle.mc_payload.specs.declared.McSettings.{McSettings}
 use Rattle.mc_payload.specs.Payload.{Codes}
 use Rattle.mc_payload.specs.Record.{Record, recordOf}
@@ -18,7 +22,29 @@ use Rattle.mc_predict.specs.Predict.{withTerm, sumOf, placeIn, predictedIn, wor
 use Rattle.mc_output.specs.Output.{channels, workOf, outputAt, outputOf}
 use Rattle.mc_history.specs.History.{historyAt, historyOf}
 use Rattle.mc_state.specs.declared.McDecodeState.{McDecodeState}
-use Rattle.mc_state.specs.Frame.{Buffers, frame, changed, follows, verdictUnpacked, answerOf, written, buffersOf, stateOf, afterVerdict, afterUnpacked}
+use Rattle.mc_state.specs.Held.{layoutFor, heldFits, follows}
+use Rattle.mc_state.specs.HeldLaws.{lone-follows, follows-count}
+use Rattle.mc_state.specs.Frame.{Buffers, After, frame, changed, verdictUnpacked, answerOf, written, buffersOf, stateOf, afterVerdict, afterUnpacked}
+
+-- the same but for the layout that the state holds
+pub record SameBut (a b : After) : Type 0 where
+  pub answer : a .answer ≡ b .answer
+  pub buffers : a .buffers ≡ b .buffers
+  pub history : a .state .«pred_hist» ≡ b .state .«pred_hist»
+  pub count : a .state .«layout_len» ≡ b .state .«layout_len»
+  pub tally : a .state .accepted ≡ b .state .accepted
+
+pub same-but : (a : After) → SameBut a a
+same-but a = record { answer = refl; buffers = refl; history = refl; count = refl; tally = refl }
+
+-- the layout is another than the one that is held
+pub record OtherLayout (st : McDecodeState) (a : After) : Type 0 where
+  pub known : st .layout ≡ 0 → ⊥
+  pub answer : a .answer ≡ refused (plain 5)
+
+-- what a call leaves, judged by another call's
+abbrev pub Judged : McDecodeState → After → After → Type 0
+Judged st a b = SameBut a b ⊎ OtherLayout st a
 
 module _ (s t : McSettings) (e : Alike s t) where
   settled-alike : (bytes : List ℕ) (bits : ℕ) → settledOf s bytes bits ≡ settledOf t bytes bits
@@ -50,6 +76,21 @@ module _ (s t : McSettings) (e : Alike s t) where
   channels-alike : channels s ≡ channels t
   channels-alike = ap (λ l. length l) (e .layouts)
 
+  -- where no layout is held, a frame of one may follow exactly if one of the other may
+  lone-alike : (count layout : ℕ) → layout ≡ 0 → follows count layout s ≡ follows count layout t
+  unfolding follows
+  lone-alike count layout z =
+      rw (z, channels-alike) (lone-follows (s .reading) count (channels t) (layoutFor s) ∙ sym (lone-follows (t .reading) count (channels t) (layoutFor t)))
+
+  -- reading 1 takes what any reading takes
+  counts-taken : (count layout : ℕ) → heldFits count layout ≡ true → s .header .surround ≤ 3 → t .reading ≡ 1 → follows count layout s ≡ true → follows count layout t ≡ true
+  unfolding follows
+  counts-taken count layout fits low first f =
+      rw first
+      (⊎-elim (λ z. rw z)
+      (λ q. rw (eq-eqb count (channels t) (q ∙ channels-alike)) (or-true (eqb count 0)))
+      (follows-count count layout s fits low f))
+
   module _ (base : Base) where
     output-at-alike : (work : List Float) (ch slot sb : ℕ) → outputAt s base work ch slot sb ≡ outputAt t base work ch slot sb
     unfolding outputAt
@@ -69,17 +110,33 @@ module _ (s t : McSettings) (e : Alike s t) where
         rw (record-alike s t e c, work-alike (recordOf t c) base history, output-alike (workOf t (recordOf t c) base history))
 
     module _ (st : McDecodeState) (headUsed : ℕ) (w : Buffers) where
-      verdict-alike : (o : Outcome Codes)
-          → afterVerdict (verdictUnpacked st s headUsed o) base w st ≡ afterVerdict (verdictUnpacked st t headUsed o) base w st
-      unfolding verdictUnpacked answerOf buffersOf stateOf
-      verdict-alike (refused x) = refl
-      verdict-alike (accepted c used) = rw channels-alike (go (follows (st .«layout_len») (channels t)))
-        where
-          go : (b : Bool)
-              → afterVerdict (cond b (frame s c headUsed used) (changed s)) base w st ≡ afterVerdict (cond b (frame t c headUsed used) (changed t)) base w st
-          go true = rw (written-alike c (st .«pred_hist»), history-alike, channels-alike)
-          go false = rw history-alike
+      verdict-alike : (c : Codes) (used : ℕ) (b : Bool)
+          → SameBut (afterVerdict (cond b (frame s c headUsed used) (changed s)) base w st) (afterVerdict (cond b (frame t c headUsed used) (changed t)) base w st)
+      unfolding answerOf buffersOf stateOf
+      verdict-alike c used true = record { answer = refl; buffers = written-alike c (st .«pred_hist»); history = history-alike; count = channels-alike; tally = refl }
+      verdict-alike c used false = record { answer = refl; buffers = refl; history = history-alike; count = refl; tally = refl }
 
-      pub frame-alike : (payload : List ℕ) (bits : ℕ) → afterUnpacked st s headUsed payload bits base w ≡ afterUnpacked st t headUsed payload bits base w
-      unfolding afterUnpacked
-      frame-alike payload bits = rw (settled-alike payload bits) (verdict-alike (settledOf t payload bits))
+      -- if t is under reading 1, s gives the same frame, or its layout is another than the one that is held
+      module _ (fits : heldFits (st .«layout_len») (st .layout) ≡ true) (low : s .header .surround ≤ 3) (first : t .reading ≡ 1) where
+        verdict-judged : (o : Outcome Codes)
+            → Judged st (afterVerdict (verdictUnpacked st s headUsed o) base w st) (afterVerdict (verdictUnpacked st t headUsed o) base w st)
+        unfolding verdictUnpacked answerOf
+        verdict-judged (refused x) = inl (same-but _)
+        verdict-judged (accepted c used) = go (follows (st .«layout_len») (st .layout) s) (follows (st .«layout_len») (st .layout) t) refl refl
+          where
+            go : (b d : Bool) → follows (st .«layout_len») (st .layout) s ≡ b → follows (st .«layout_len») (st .layout) t ≡ d
+                → Judged st (afterVerdict (cond b (frame s c headUsed used) (changed s)) base w st) (afterVerdict (cond d (frame t c headUsed used) (changed t)) base w st)
+            go true true p q = inl (verdict-alike c used true)
+            go false false p q = inl (verdict-alike c used false)
+            go true false p q =
+                let r = counts-taken (st .«layout_len») (st .layout) fits low first p in
+                let z : _≡_ {A = ℕ} 0 1 = cc in absurd (omega arith)
+            go false true p q =
+                inr (record {
+                  known = λ z. (let r = lone-alike (st .«layout_len») (st .layout) z in let n : _≡_ {A = ℕ} 0 1 = cc in omega arith);
+                  answer = refl;
+                })
+
+        pub frame-judged : (payload : List ℕ) (bits : ℕ) → Judged st (afterUnpacked st s headUsed payload bits base w) (afterUnpacked st t headUsed payload bits base w)
+        unfolding afterUnpacked
+        frame-judged payload bits = rw (settled-alike payload bits) (verdict-judged (settledOf t payload bits))

@@ -7,8 +7,11 @@ use Rattle.mc_error.specs.Error.{refusalOf}
 use Rattle.mc_base.specs.Base.{Base}
 use Rattle.mc_state.specs.declared.McAnswer.{McAnswer}
 use Rattle.mc_state.specs.declared.McAnswer.the-variants.{Accepted, Refused}
+use Rattle.mc_state.specs.declared.CarryAnswer.{CarryAnswer}
+use Rattle.mc_state.specs.declared.CarryAnswer.the-variants.{Carried, Refused as CarryRefused}
 use Rattle.mc_state.specs.declared.Framed.{Framed}
 use Rattle.mc_state.specs.declared.McDecodeState.{McDecodeState}
+use Rattle.mc_state.specs.Carry.{Carrying}
 use Rattle.mc_state.specs.Frame.{Lent, Buffers, After}
 
 abbrev pub lentOf : List ℕ → ℕ → List ℕ → ℕ → ℕ → ℕ → ℕ → Base → List ℕ → ℕ → List ℕ → Lent
@@ -40,6 +43,19 @@ afterBy answer state w = record { answer = outcomeOf answer; buffers = w; state 
 
 abbrev pub afterOf : Framed → Buffers → After
 afterOf r w = afterBy (r .answer) (r .state) w
+
+-- ---- carrying
+
+-- 0, or document 01's number
+abbrev pub carryNumber : CarryAnswer → ℕ
+carryNumber Carried = 0
+carryNumber (CarryRefused e) = refusalOf e .number
+
+abbrev pub carryingBy : ℕ → McDecodeState → Carrying
+carryingBy n state = record { answer = n; state = state }
+
+abbrev pub carryingOf : CarryAnswer → McDecodeState → Carrying
+carryingOf answer state = carryingBy (carryNumber answer) state
 
 -- ---- the answer as one number, for C
 

@@ -16,6 +16,7 @@ use Rattle.mc_unpack.specs.Settled.{settledOf}
 use Rattle.mc_output.specs.Output.{channels}
 use Rattle.mc_history.specs.History.{historyOf}
 use Rattle.mc_state.specs.declared.McDecodeState.{McDecodeState}
+use Rattle.mc_state.specs.Held.{layoutFor, follows, layoutAfter}
 use Rattle.mc_state.specs.Frame.{Lent, Buffers, After, settingsFor, written, oneMore, frameOf}
 
 -- what was found in head and payload, and in how many bits of each
@@ -49,8 +50,9 @@ pub record Stored (l : Lent) (st st′ : McDecodeState) : Type 0 where
   pub used : ℕ
   pub found : Found l settings codes headUsed used
   pub history : st′ .«pred_hist» ≡ historyOf settings (l .base)
-  pub layout : st′ .«layout_len» ≡ st .«layout_len»
-  pub count : st′ .accepted ≡ st .accepted
+  pub count : st′ .«layout_len» ≡ st .«layout_len»
+  pub layout : st′ .layout ≡ st .layout
+  pub tally : st′ .accepted ≡ st .accepted
 
 -- after refusal x the buffers are as they were, and so is the state, but that refusal 5 has stored the history
 pub record Left (x : Refusal) (l : Lent) (w : Buffers) (st : McDecodeState) (a : After) : Type 0 where
@@ -64,10 +66,12 @@ pub record Written (l : Lent) (st : McDecodeState) (headUsed used : ℕ) (a : Af
   pub settings : McSettings
   pub codes : Codes
   pub found : Found l settings codes headUsed used
+  pub allowed : follows (st .«layout_len») (st .layout) settings ≡ true
   pub buffers : a .buffers ≡ written settings codes (l .base) (st .«pred_hist»)
   pub history : a .state .«pred_hist» ≡ historyOf settings (l .base)
-  pub layout : a .state .«layout_len» ≡ channels settings
-  pub count : a .state .accepted ≡ oneMore (st .accepted)
+  pub count : a .state .«layout_len» ≡ channels settings
+  pub layout : a .state .layout ≡ layoutAfter (settings .reading) (st .layout) (layoutFor settings)
+  pub tally : a .state .accepted ≡ oneMore (st .accepted)
 
 abbrev pub RefusedLeaves : Type 0
 RefusedLeaves = (l : Lent) (w : Buffers) (st : McDecodeState) (x : Refusal) → frameOf l w st .answer ≡ refused x → Left x l w st (frameOf l w st)

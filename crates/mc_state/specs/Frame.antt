@@ -1,8 +1,8 @@
 -- One frame call: the refusal in document 01's order or the accepted frame, and what every buffer and the state hold afterwards.
-use mathlib.Core.Bool.{Bool, _&&_, _||_, cond}
+use mathlib.Core.Bool.{Bool, _&&_, cond}
 use mathlib.Core.List.{List}
 use Prim.Native.Nat.{ℕ, _+_}
-use lib.Dec.{eqb, ltb, leb}
+use lib.Dec.{eqb, ltb}
 use lib.Ieee.{Float, nan, binary64, ofBits, neg, le}
 use lib.ListN.{length, getD, replicate}
 use Rattle.floats.specs.Binary64.{zero64}
@@ -20,6 +20,7 @@ use Rattle.mc_base.specs.Base.{Base}
 use Rattle.mc_output.specs.Output.{workOf, outputOf, channels}
 use Rattle.mc_history.specs.History.{historyOf}
 use Rattle.mc_state.specs.declared.McDecodeState.{McDecodeState}
+use Rattle.mc_state.specs.Held.{layoutFor, heldFits, follows, layoutAfter}
 
 -- what a frame call is lent, beside the state
 pub record Lent : Type 0 where
@@ -60,17 +61,17 @@ abbrev pub roomFits : ℕ → ℕ → ℕ → ℕ → Bool
 roomFits raw work output lfe = eqb raw 3456 && (eqb work 3456 && (eqb output 5760 && eqb lfe 12))
 
 -- all that is lent, the buffers by their lengths, is as documents 01 and 02 say
-unfoldable pub lentBy : Lent → ℕ → ℕ → ℕ → ℕ → ℕ → Bool
-lentBy l raw work output lfe layoutLen =
+unfoldable pub lentBy : Lent → ℕ → ℕ → ℕ → ℕ → ℕ → ℕ → Bool
+lentBy l raw work output lfe count layout =
     stringFits (l .head) (l .headBits)
     && (stringFits (l .payload) (l .payloadBits)
     && (loanFits (l .reading) (l .rate) (l .baseChannels) (l .lfe) (l .steps) (l .baseSteps)
     && (valuesLong (l .baseChannels) (length (l .base .rawLeft)) (length (l .base .rawRight)) (length (l .base .scaledLeft)) (length (l .base .scaledRight))
-    && (roomFits raw work output lfe && leb layoutLen 5))))
+    && (roomFits raw work output lfe && heldFits count layout))))
 
 -- else wrong loan, refusal 6
 abbrev pub lentFits : Lent → Buffers → McDecodeState → Bool
-lentFits l w st = lentBy l (length (w .raw)) (length (w .work)) (length (w .output)) (length (w .lfe)) (st .«layout_len»)
+lentFits l w st = lentBy l (length (w .raw)) (length (w .work)) (length (w .output)) (length (w .lfe)) (st .«layout_len») (st .layout)
 
 abbrev pub four : Float
 four = ofBits binary64 0x4010000000000000
@@ -99,13 +100,9 @@ pub data Verdict : Type 0 where
 abbrev pub settingsFor : Lent → McHeader → McStatus → McSettings
 settingsFor l h status = settingsOf (loanBy (l .reading) (l .rate) (l .baseChannels) h status (l .lfe) (l .steps) (l .baseSteps))
 
--- a layout of so many channels may follow on the state's: there is none yet, or it has as many
-abbrev pub follows : ℕ → ℕ → Bool
-follows layoutLen n = eqb layoutLen 0 || eqb layoutLen n
-
 unfoldable pub verdictUnpacked : McDecodeState → McSettings → ℕ → Outcome Codes → Verdict
 verdictUnpacked st s headUsed (refused r) = refusal r
-verdictUnpacked st s headUsed (accepted c used) = cond (follows (st .«layout_len») (channels s)) (frame s c headUsed used) (changed s)
+verdictUnpacked st s headUsed (accepted c used) = cond (follows (st .«layout_len») (st .layout) s) (frame s c headUsed used) (changed s)
 
 unfoldable pub verdictHead : Lent → McDecodeState → Outcome (McHeader × (ℕ × McStatus)) → Verdict
 verdictHead l st (refused r) = refusal r
@@ -147,9 +144,14 @@ oneMore n = cond (ltb n 4294967295) (n + 1) 4294967295
 -- a refusal leaves the state as it was, but refusal 5 has stored the history
 unfoldable pub stateOf : Verdict → Base → McDecodeState → McDecodeState
 stateOf (refusal r) base st = st
-stateOf (changed s) base st = record { «pred_hist» = historyOf s base; «layout_len» = st .«layout_len»; accepted = st .accepted }
+stateOf (changed s) base st = record { «pred_hist» = historyOf s base; «layout_len» = st .«layout_len»; layout = st .layout; accepted = st .accepted }
 stateOf (frame s c headUsed used) base st =
-    record { «pred_hist» = historyOf s base; «layout_len» = channels s; accepted = oneMore (st .accepted) }
+    record {
+      «pred_hist» = historyOf s base;
+      «layout_len» = channels s;
+      layout = layoutAfter (s .reading) (st .layout) (layoutFor s);
+      accepted = oneMore (st .accepted);
+    }
 
 -- the whole call
 pub record After : Type 0 where
@@ -169,4 +171,4 @@ frameOf l w st = afterVerdict (verdictOf l w st) (l .base) w st
 
 -- a fresh state is all zero
 unfoldable pub fresh : McDecodeState
-fresh = record { «pred_hist» = replicate 576 zero64; «layout_len» = 0; accepted = 0 }
+fresh = record { «pred_hist» = replicate 576 zero64; «layout_len» = 0; layout = 0; accepted = 0 }

@@ -1,6 +1,11 @@
+pub mod Held
+pub mod HeldLaws
 pub mod Frame
+pub mod Carry
 pub mod Answer
+pub mod CarryLaws
 pub mod Demand1
+pub mod Reel
 pub mod AlikeLaws
 pub mod ReadingLaws
 pub mod Long

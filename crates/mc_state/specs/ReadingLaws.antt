@@ -1,9 +1,11 @@
 -- What a reading does to a whole frame call: a number that is none is refused, and so is a centre code that has no meaning under the reading;
--- any other frame is one of reading 1, over one base channel that with centre code 1 in place of 3.
+-- any other frame is one of reading 1, over one base channel that with centre code 1 in place of 3, unless its layout is another than the one that is held.
 use mathlib.Core.Path.{_≡_, refl, _∙_}
 use mathlib.Core.Bool.{Bool, true, false, cond, and-false}
 use mathlib.Core.List.{List}
+use mathlib.Core.Logic.{inl}
 use Prim.Native.Nat.{ℕ}
+use lib.ListN.{length}
 use Rattle.bits.specs.Syntax.{Refusal, plain, Outcome, accepted, refused, run}
 use Rattle.mc_config.specs.Reading.{readingFits, centreStops}
 use Rattle.mc_config.specs.ReadingLaws.{withoutPhantom}
@@ -11,15 +13,17 @@ use Rattle.mc_config.specs.declared.McHeader.{McHeader}
 use Rattle.mc_fields.specs.declared.McStatus.{McStatus}
 use Rattle.mc_fields.specs.Head.{mcHeader}
 use Rattle.mc_fields.specs.Lent.{stringFits, baseFits, headFits, headOf}
-use Rattle.mc_fields.specs.LentLaws.{lent-fits, lent-only}
+use Rattle.mc_fields.specs.HeadYields.{header-fits}
+use Rattle.mc_fields.specs.LentLaws.{lent-fits, lent-only, lent-accepted}
 use Rattle.mc_fields.specs.ReadingLaws.{header-refused, centre-stopped, centre-known}
-use Rattle.mc_payload.specs.Unpack.{rateFits, loanFits}
+use Rattle.mc_payload.specs.Unpack.{rateFits, loanFits, settingsOf}
 use Rattle.mc_payload.specs.Demand3.Accepted.{both-true}
 use Rattle.mc_payload.specs.Alike.{Alike}
 use Rattle.mc_payload.specs.ReadingLaws.{alike-stereo, alike-mono}
 use Rattle.mc_state.specs.declared.McDecodeState.{McDecodeState}
-use Rattle.mc_state.specs.Frame.{Lent, Buffers, After, refusal, lentBy, lentFits, valuesFit, settingsFor, verdictHead, verdictOf, answerOf, buffersOf, stateOf, afterVerdict, afterUnpacked, frameOf}
-use Rattle.mc_state.specs.AlikeLaws.{frame-alike}
+use Rattle.mc_state.specs.Held.{heldFits}
+use Rattle.mc_state.specs.Frame.{Lent, Buffers, After, refusal, valuesLong, roomFits, lentBy, lentFits, valuesFit, settingsFor, verdictHead, verdictOf, answerOf, buffersOf, stateOf, afterVerdict, afterUnpacked, frameOf}
+use Rattle.mc_state.specs.AlikeLaws.{Judged, same-but, frame-judged}
 
 -- refused so, and nothing is changed
 abbrev pub stoppedBy : Refusal → Buffers → McDecodeState → After
@@ -92,31 +96,48 @@ module _ (l : Lent) (w : Buffers) (st : McDecodeState) (head : List ℕ) (headBi
   found k o = afterVerdict (verdictHead k st o) (l .base) w st
 
   frames-same : lentFits l w st ≡ lentFits first w st
-      → found l (headOf (l .reading) (l .head) (l .headBits) (l .baseChannels)) ≡ found first (headOf 1 head headBits (l .baseChannels))
-      → frameOf l w st ≡ frameOf first w st
+      → (lentFits first w st ≡ true → Judged st (found l (headOf (l .reading) (l .head) (l .headBits) (l .baseChannels))) (found first (headOf 1 head headBits (l .baseChannels))))
+      → Judged st (frameOf l w st) (frameOf first w st)
   unfolding frameOf verdictOf
-  frames-same fits same = rw fits (go (lentFits first w st) (valuesFit (l .base) (st .«pred_hist»)))
+  frames-same fits same = rw fits (go (lentFits first w st) (valuesFit (l .base) (st .«pred_hist»)) refl)
     where
-      go : (lent values : Bool)
-          → afterVerdict (cond lent (cond values (verdictHead l st (headOf (l .reading) (l .head) (l .headBits) (l .baseChannels))) (refusal (plain 7))) (refusal (plain 6))) (l .base) w st
-          ≡ afterVerdict (cond lent (cond values (verdictHead first st (headOf 1 head headBits (l .baseChannels))) (refusal (plain 7))) (refusal (plain 6))) (l .base) w st
-      go true true = same
-      go true false = refl
-      go false values = refl
+      go : (lent values : Bool) → lentFits first w st ≡ lent
+          → Judged st
+          (afterVerdict (cond lent (cond values (verdictHead l st (headOf (l .reading) (l .head) (l .headBits) (l .baseChannels))) (refusal (plain 7))) (refusal (plain 6))) (l .base) w st)
+          (afterVerdict (cond lent (cond values (verdictHead first st (headOf 1 head headBits (l .baseChannels))) (refusal (plain 7))) (refusal (plain 6))) (l .base) w st)
+      go true true e = same e
+      go true false e = inl (same-but _)
+      go false values e = inl (same-but _)
 
-  heads-same : (h h′ : McHeader) (word word′ : ℕ) (status : McStatus) (used : ℕ) → Alike (settingsFor l h status) (settingsFor first h′ status)
-      → found l (accepted (h, (word, status)) used) ≡ found first (accepted (h′, (word′, status)) used)
-  unfolding verdictHead afterUnpacked
-  heads-same h h′ word word′ status used e = frame-alike (settingsFor l h status) (settingsFor first h′ status) e (l .base) st used w (l .payload) (l .payloadBits)
+  held-fits : lentFits first w st ≡ true → heldFits (st .«layout_len») (st .layout) ≡ true
+  unfolding lentBy
+  held-fits e =
+      let a = both-true (stringFits head headBits) _ e in
+      let b = both-true (stringFits (l .payload) (l .payloadBits)) _ (a .1) in
+      let c = both-true (loanFits 1 (l .rate) (l .baseChannels) (l .lfe) (l .steps) (l .baseSteps)) _ (b .1) in
+      let d = both-true (valuesLong (l .baseChannels) (length (l .base .rawLeft)) (length (l .base .rawRight)) (length (l .base .scaledLeft)) (length (l .base .scaledRight))) _ (c .1) in
+      both-true (roomFits (length (w .raw)) (length (w .work)) (length (w .output)) (length (w .lfe))) _ (d .1) .1
+
+  heads-same : (h h′ : McHeader) (word word′ : ℕ) (status : McStatus) (used : ℕ)
+      → headOf (l .reading) (l .head) (l .headBits) (l .baseChannels) ≡ accepted (h, (word, status)) used
+      → Alike (settingsFor l h status) (settingsFor first h′ status) → lentFits first w st ≡ true
+      → Judged st (found l (accepted (h, (word, status)) used)) (found first (accepted (h′, (word′, status)) used))
+  unfolding verdictHead afterUnpacked settingsOf
+  heads-same h h′ word word′ status used read e lent =
+      let low =
+      header-fits (l .reading) (l .baseChannels) (l .head) (l .headBits) 0 h word status used
+      (lent-accepted (l .reading) (l .head) (l .headBits) (l .baseChannels) (h, (word, status)) used read) .surround
+      in
+      frame-judged (settingsFor l h status) (settingsFor first h′ status) e (l .base) st used w (held-fits lent) low refl (l .payload) (l .payloadBits)
 
   -- over one base channel reading 2 gives the frame whose head has centre code 1 in place of 3
   pub mono-frame : l .reading ≡ 2 → l .baseChannels ≡ 1 → (h : McHeader) (word word′ : ℕ) (status : McStatus) (used : ℕ)
       → headOf (l .reading) (l .head) (l .headBits) (l .baseChannels) ≡ accepted (h, (word, status)) used
       → headOf 1 head headBits (l .baseChannels) ≡ accepted (withoutPhantom h, (word′, status)) used
-      → frameOf l w st ≡ frameOf first w st
+      → Judged st (frameOf l w st) (frameOf first w st)
   unfolding lentBy loanFits headFits
   mono-frame r b h word word′ status used e e′ =
-      frames-same fits (rw (e, e′) (heads-same h (withoutPhantom h) word word′ status used alike))
+      frames-same fits (λ lent. rw (e, e′) (heads-same h (withoutPhantom h) word word′ status used e alike lent))
     where
       fits : lentFits l w st ≡ lentFits first w st
       fits =
@@ -134,11 +155,14 @@ module _ (l : Lent) (w : Buffers) (st : McDecodeState) (fits : readingFits (l .r
   unfolding headOf headFits
   head-same = rw (fits, centre-known (l .reading) (l .baseChannels) (l .head) (l .headBits) 0 h u e known)
 
-  pub stereo-frame : frameOf l w st ≡ frameOf (underFirst l (l .head) (l .headBits)) w st
+  pub stereo-frame : Judged st (frameOf l w st) (frameOf (underFirst l (l .head) (l .headBits)) w st)
   unfolding lentBy loanFits verdictHead
-  stereo-frame = frames-same l w st (l .head) (l .headBits) (rw fits) (rw head-same (go (headOf 1 (l .head) (l .headBits) (l .baseChannels))))
+  stereo-frame =
+      frames-same l w st (l .head) (l .headBits) (rw fits) (λ lent. rw (← head-same) (go lent (headOf (l .reading) (l .head) (l .headBits) (l .baseChannels)) refl))
     where
-      go : (o : Outcome (McHeader × (ℕ × McStatus))) → found l w st (l .head) (l .headBits) l o ≡ found l w st (l .head) (l .headBits) (underFirst l (l .head) (l .headBits)) o
-      go (refused x) = refl
-      go (accepted (h, (word, status)) used) =
-          heads-same l w st (l .head) (l .headBits) h h word word status used (alike-stereo (l .rate) status (l .lfe) (l .steps) (l .baseSteps) (l .reading) (l .baseChannels) h n)
+      go : lentFits (underFirst l (l .head) (l .headBits)) w st ≡ true → (o : Outcome (McHeader × (ℕ × McStatus)))
+          → headOf (l .reading) (l .head) (l .headBits) (l .baseChannels) ≡ o
+          → Judged st (found l w st (l .head) (l .headBits) l o) (found l w st (l .head) (l .headBits) (underFirst l (l .head) (l .headBits)) o)
+      go lent (refused x) q = inl (same-but _)
+      go lent (accepted (h, (word, status)) used) q =
+          heads-same l w st (l .head) (l .headBits) h h word word status used q (alike-stereo (l .rate) status (l .lfe) (l .steps) (l .baseSteps) (l .reading) (l .baseChannels) h n) lent

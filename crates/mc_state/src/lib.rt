@@ -1,8 +1,14 @@
-// What a frame call keeps and answers. The definition of the call stands in specs/Frame.antt, demand 1 in specs/Demand1.antt.
+// What a frame call keeps and answers. The definition of the call stands in specs/Frame.antt, demand 1 in specs/Demand1.antt, sequences of calls in
+// specs/Reel.antt.
 use mc_error::McError;
 
+mod carry;
+mod held;
 mod state;
 
+pub use held::held_fits;
+pub use held::layout_after;
+pub use held::layout_follows;
 pub use state::one_more;
 
 // What a decoder keeps from frame to frame.
@@ -12,6 +18,8 @@ pub struct McDecodeState {
     pub pred_hist: [f64; 576],
     // output channels of the frames so far, 0 before the first
     pub layout_len: u8,
+    // their layout, 10 * front + surround code; 0 where only the count is known
+    pub layout: u8,
     // accepted frames; stays at its top
     pub accepted: u32,
 }
@@ -28,5 +36,17 @@ pub enum McAnswer {
 // The answer, and the state after it.
 pub struct Framed {
     pub answer: McAnswer,
+    pub state: McDecodeState,
+}
+
+// Whether a state was carried, or why not.
+pub enum CarryAnswer {
+    Carried,
+    Refused(McError),
+}
+
+// The answer, and the state after it.
+pub struct CarriedState {
+    pub answer: CarryAnswer,
     pub state: McDecodeState,
 }

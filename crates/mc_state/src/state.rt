@@ -14,6 +14,7 @@ impl McDecodeState {
         McDecodeState {
             pred_hist: [0.0; 576],
             layout_len: 0,
+            layout: 0,
             accepted: 0,
         }
     }

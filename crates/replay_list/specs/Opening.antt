@@ -44,6 +44,7 @@ startOf opening state =
     record {
       «pred_hist» = lentValues opening (2304 + 2 * secondLent opening 1152) 4608 576;
       «layout_len» = getD opening 20 0;
+      layout = 0;
       accepted = number32At opening 24;
     }
     state

@@ -48,7 +48,7 @@ module _ (opening : List ℕ) where
 
   pub start-anew : (b second layout accepted : ℕ) (history : List Float) (state : McDecodeState)
       → b ≡ getD opening 19 0 → b ≡ 1 → second ≡ secondLent opening 1152 → history ≡ lentValues opening (2304 + 2 * second) 4608 576 → layout ≡ getD opening 20 0 → accepted ≡ number32At opening 24
-      → record { «pred_hist» = history; «layout_len» = layout; accepted = accepted } ≡ startOf opening state
+      → record { «pred_hist» = history; «layout_len» = layout; layout = 0; accepted = accepted } ≡ startOf opening state
   unfolding startOf
   start-anew b second layout accepted history state e q es eh el ea =
       simp (eq-eqb (getD opening 19 0) 1 (sym e ∙ q)) (rw (eh, el, ea, es))

@@ -18,7 +18,7 @@ abbrev pub hashOf : List Float → ℕ
 hashOf xs = hashFloats 14695981039346656037 xs
 
 unfoldable pub stateHash : McDecodeState → ℕ
-stateHash s = hashNumber (hashNumber (hashOf (s .«pred_hist»)) (s .«layout_len»)) (s .accepted)
+stateHash s = hashNumber (hashNumber (hashNumber (hashOf (s .«pred_hist»)) (s .«layout_len»)) (s .layout)) (s .accepted)
 
 -- what the frame call reached: its packed answer, and the hashes of the four buffers and of the state
 abbrev pub reachedOf : McAnswer → McDecodeState → List Float → List Float → List Float → List Float → Outcome

@@ -104,6 +104,7 @@ pub fn start(state: McDecodeState, opening: &[u8]) -> McDecodeState
     McDecodeState {
         pred_hist: history,
         layout_len,
+        layout: 0,
         accepted,
     }
 }

@@ -45,14 +45,15 @@ fn hash(xs: &[f64]) -> u64
     hash_floats(EMPTY_HASH, xs)
 }
 
-// The hash of the history, the layout count and the accepted frames.
+// The hash of the history, the layout count, the layout and the accepted frames.
 fn hash_state(state: McDecodeState) -> u64
     ensures { λ r. ⌜ r ≡ stateHash state ⌝ }
 {
     let history = state.pred_hist;
     let h = hash(&history);
     let counted = hash_number(h, state.layout_len as u64);
-    hash_number(counted, state.accepted as u64)
+    let laid = hash_number(counted, state.layout as u64);
+    hash_number(laid, state.accepted as u64)
 }
 
 // How many floats those hashes are of.

@@ -18,10 +18,10 @@ use Rattle.mc_payload.specs.Payload.{Codes}
 use Rattle.mc_payload.specs.PayloadYields.{payload-yields}
 use Rattle.mc_payload.specs.Unpack.{allocationsFit, payloadOf}
 use Rattle.mc_unpack.specs.Settled.{settledOf}
-use Rattle.mc_output.specs.Output.{channels}
 use Rattle.mc_state.specs.declared.McDecodeState.{McDecodeState}
-use Rattle.mc_state.specs.Frame.{Lent, Buffers, Verdict, refusal, changed, frame, settingsFor, follows, lentFits, valuesFit, verdictUnpacked, verdictHead, verdictOf, answerOf, buffersOf, stateOf, afterVerdict, frameOf}
-use Rattle.mc_state.specs.Demand1.{Found, among, frameNumbers, Numbered, Stored, Left, Written, RefusedLeaves, AcceptedWrites}
+use Rattle.mc_state.specs.Held.{follows}
+use Rattle.mc_state.specs.Frame.{Lent, Buffers, Verdict, refusal, changed, frame, settingsFor, lentFits, valuesFit, verdictUnpacked, verdictHead, verdictOf, answerOf, buffersOf, stateOf, afterVerdict, frameOf}
+use Rattle.mc_state.specs.Demand1.{Found, among, frameNumbers, Numbered, Left, Written, RefusedLeaves, AcceptedWrites}
 
 -- ---- refusals before the layout is compared
 
@@ -76,10 +76,10 @@ record Changed (l : Lent) (s : McSettings) : Type 0 where
   used : ℕ
   found : Found l s codes headUsed used
 
-unfoldable Way : Lent → Verdict → Type 0
-Way l (refusal x) = Early x
-Way l (changed s) = Changed l s
-Way l (frame s c headUsed used) = Found l s c headUsed used
+unfoldable Way : Lent → McDecodeState → Verdict → Type 0
+Way l st (refusal x) = Early x
+Way l st (changed s) = Changed l s
+Way l st (frame s c headUsed used) = Found l s c headUsed used × (follows (st .«layout_len») (st .layout) s ≡ true)
 
 module _ (l : Lent) (st : McDecodeState) where
   way-unpacked :
@@ -87,42 +87,43 @@ module _ (l : Lent) (st : McDecodeState) where
       → headOf (l .reading) (l .head) (l .headBits) (l .baseChannels) ≡ accepted (header, (word, status)) headUsed
       → (o : Outcome Codes)
       → settledOf (settingsFor l header status) (l .payload) (l .payloadBits) ≡ o
-      → Way l (verdictUnpacked st (settingsFor l header status) headUsed o)
+      → Way l st (verdictUnpacked st (settingsFor l header status) headUsed o)
   unfolding Way verdictUnpacked
   way-unpacked header word status headUsed eh (refused x) e = settled-early _ _ _ x e
-  way-unpacked header word status headUsed eh (accepted c used) e = go (follows (st .«layout_len») (channels (settingsFor l header status)))
+  way-unpacked header word status headUsed eh (accepted c used) e = go (follows (st .«layout_len») (st .layout) (settingsFor l header status)) refl
     where
       found : Found l (settingsFor l header status) c headUsed used
       found = record { header = header; word = word; status = status; head = eh; settings = refl; payload = e }
 
-      go : (t : Bool) → Way l (cond t (frame (settingsFor l header status) c headUsed used) (changed (settingsFor l header status)))
-      go true = found
-      go false = record { codes = c; headUsed = headUsed; used = used; found = found }
+      go : (t : Bool) → follows (st .«layout_len») (st .layout) (settingsFor l header status) ≡ t
+          → Way l st (cond t (frame (settingsFor l header status) c headUsed used) (changed (settingsFor l header status)))
+      go true f = (found, f)
+      go false f = record { codes = c; headUsed = headUsed; used = used; found = found }
 
   way-head :
       (o : Outcome (McHeader × (ℕ × McStatus)))
       → headOf (l .reading) (l .head) (l .headBits) (l .baseChannels) ≡ o
-      → Way l (verdictHead l st o)
+      → Way l st (verdictHead l st o)
   unfolding Way verdictHead
   way-head (refused x) e = head-early _ _ _ _ x e
   way-head (accepted (header, (word, status)) headUsed) e = way-unpacked header word status headUsed e _ refl
 
-  way : (w : Buffers) → Way l (verdictOf l w st)
+  way : (w : Buffers) → Way l st (verdictOf l w st)
   unfolding Way verdictOf among
   way w = loan (lentFits l w st)
     where
-      values : (t : Bool) → Way l (cond t (verdictHead l st (headOf (l .reading) (l .head) (l .headBits) (l .baseChannels))) (refusal (plain 7)))
+      values : (t : Bool) → Way l st (cond t (verdictHead l st (headOf (l .reading) (l .head) (l .headBits) (l .baseChannels))) (refusal (plain 7)))
       values true = way-head _ refl
       values false = early-plain 7 refl (λ z. omega arith) (plain 7) refl
 
-      loan : (t : Bool) → Way l (cond t (cond (valuesFit (l .base) (st .«pred_hist»)) (verdictHead l st (headOf (l .reading) (l .head) (l .headBits) (l .baseChannels))) (refusal (plain 7))) (refusal (plain 6)))
+      loan : (t : Bool) → Way l st (cond t (cond (valuesFit (l .base) (st .«pred_hist»)) (verdictHead l st (headOf (l .reading) (l .head) (l .headBits) (l .baseChannels))) (refusal (plain 7))) (refusal (plain 6)))
       loan true = values (valuesFit (l .base) (st .«pred_hist»))
       loan false = early-plain 6 refl (λ z. omega arith) (plain 6) refl
 
 -- ---- what each leaves
 
 module _ (l : Lent) (w : Buffers) (st : McDecodeState) where
-  left-by : (v : Verdict) → Way l v → (x : Refusal) → answerOf v ≡ refused x → Left x l w st (afterVerdict v (l .base) w st)
+  left-by : (v : Verdict) → Way l st v → (x : Refusal) → answerOf v ≡ refused x → Left x l w st (afterVerdict v (l .base) w st)
   unfolding Way answerOf buffersOf stateOf among
   left-by (refusal r) h x e =
       let q : r ≡ x = cc in
@@ -142,20 +143,31 @@ module _ (l : Lent) (w : Buffers) (st : McDecodeState) where
               used = h .used;
               found = h .found;
               history = refl;
-              layout = refl;
               count = refl;
+              layout = refl;
+              tally = refl;
             };
       }
   left-by (frame s c headUsed used) h x e = let z : _≡_ {A = ℕ} 0 1 = cc in absurd (omega arith)
 
-  written-by : (v : Verdict) → Way l v → (headUsed used : ℕ) → answerOf v ≡ accepted headUsed used → Written l st headUsed used (afterVerdict v (l .base) w st)
+  written-by : (v : Verdict) → Way l st v → (headUsed used : ℕ) → answerOf v ≡ accepted headUsed used → Written l st headUsed used (afterVerdict v (l .base) w st)
   unfolding Way answerOf buffersOf stateOf
   written-by (refusal r) h headUsed used e = let z : _≡_ {A = ℕ} 0 1 = cc in absurd (omega arith)
   written-by (changed s) h headUsed used e = let z : _≡_ {A = ℕ} 0 1 = cc in absurd (omega arith)
   written-by (frame s c n u) h headUsed used e =
       let en : n ≡ headUsed = cc in
       let eu : u ≡ used = cc in
-      record { settings = s; codes = c; found = rw (en, eu) at h; buffers = refl; history = refl; layout = refl; count = refl }
+      record {
+        settings = s;
+        codes = c;
+        found = rw (en, eu) at (h .0);
+        allowed = h .1;
+        buffers = refl;
+        history = refl;
+        count = refl;
+        layout = refl;
+        tally = refl;
+      }
 
 pub refused-leaves : RefusedLeaves
 unfolding frameOf

@@ -1,4 +1,4 @@
--- `mc_state::checks::lent_fits` meets its contract.
+-- `mc_checks::lent_fits` meets its contract.
 use mathlib.Core.Path.{_≡_}
 use mathlib.Core.Bool.{Bool, _&&_}
 use Rattle.mc_state.specs.Frame.{lentBy}
@@ -11,10 +11,12 @@ use Rattle.mc_checks.proofs.checks.room_fits.Reads as room-fits-reads
 use Rattle.mc_checks.proofs.checks.values_long.Reads as values-long-reads
 use Rattle.mc_fields.proofs.string_fits.Reads as string-fits-reads
 use Rattle.mc_loan.proofs.loan_fits.Reads as loan-fits-reads
+use Rattle.mc_state.proofs.held_fits.Reads as held-fits-reads
 
 -- src/checks.rt:87:9
-joined : (f : Bool) {a b c d e a′ b′ c′ d′ e′ : Bool} → a ≡ a′ → b ≡ b′ → c ≡ c′ → d ≡ d′ → e ≡ e′ → a && (b && (c && (d && (e && f)))) ≡ a′ && (b′ && (c′ && (d′ && (e′ && f))))
-joined f p q r s t = cc
+joined : {a b c d e f a′ b′ c′ d′ e′ f′ : Bool} → a ≡ a′ → b ≡ b′ → c ≡ c′ → d ≡ d′ → e ≡ e′ → f ≡ f′
+    → a && (b && (c && (d && (e && f)))) ≡ a′ && (b′ && (c′ && (d′ && (e′ && f′))))
+joined p q r s t u = cc
 
 string-fits-requires : tie.Need-string-fits-requires
 string-fits-requires c κs = search needs
@@ -35,10 +37,14 @@ values-long-requires c κs = search needs
 room-fits-requires : tie.Need-room-fits-requires
 room-fits-requires c κs = search needs
 
+-- src/checks.rt:108:9
+held-fits-requires : tie.Need-held-fits-requires
+held-fits-requires c κs = search needs
+
 -- src/checks.rt:65:1
 returns : tie.Need-returns
 unfolding lentBy
-returns c = joined _ (c .before .before .before .before .string-fits .ensures) (c .before .before .before .string-fits2 .ensures) (c .before .before .loan-fits .ensures) (c .before .values-long .ensures) (c .room-fits .ensures)
+returns c = joined (c .before .before .before .before .before .string-fits .ensures) (c .before .before .before .before .string-fits2 .ensures) (c .before .before .before .loan-fits .ensures) (c .before .before .values-long .ensures) (c .before .room-fits .ensures) (c .held-fits .ensures)
 
 pub lent-fits-spec : {M : Type 1} → statement M
 lent-fits-spec =
@@ -49,4 +55,5 @@ lent-fits-spec =
     loan-fits-requires
     values-long-requires
     room-fits-requires
+    held-fits-requires
     returns)

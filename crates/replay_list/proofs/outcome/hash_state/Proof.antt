@@ -22,9 +22,15 @@ cast-hash-number-2 c = search needs
 hash-number-requires-2 : tie.Need-hash-number-requires-2
 hash-number-requires-2 c κs = search needs
 
+cast-hash-number-3 : tie.Need-cast-hash-number-3
+cast-hash-number-3 c = search needs
+
+hash-number-requires-3 : tie.Need-hash-number-requires-3
+hash-number-requires-3 c κs = search needs
+
 returns : tie.Need-returns
 unfolding stateHash
-returns c = rw (c .hash-number2 .ensures, c .before .before .hash-number .ensures, c .before .before .before .before .hash .ensures)
+returns c = rw (c .hash-number3 .ensures, c .before .before .hash-number2 .ensures, c .before .before .before .before .hash-number .ensures, c .before .before .before .before .before .before .hash .ensures)
 
 pub hash-state-spec : {M : Type 1} → statement M
 hash-state-spec =
@@ -36,4 +42,6 @@ hash-state-spec =
     hash-number-requires
     cast-hash-number-2
     hash-number-requires-2
+    cast-hash-number-3
+    hash-number-requires-3
     returns)

@@ -1,4 +1,4 @@
--- `mc_frame::mc_fresh_state` meets its contract: a walk of its MIR, by hand. The borrow of the state is opened, the state is copied out and passed to `renewed`, the state that comes back is stored, and the borrow is closed at it. The slices go to `renewed` for good, at their own lifetimes.
+-- `mc_frame::mc_fresh_state_layout` meets its contract: a walk of its MIR, by hand. The borrow of the state is opened, the state is copied out and passed to `renewed`, the state that comes back is stored, and the borrow is closed at it.
 -- All that the proof knows of `renewed` is that it meets its contract.
 use mathlib.Core.Path.{_≡_, refl, ap}
 use Prim.Native.Nat.{ℕ, _<_, _^_}
@@ -48,15 +48,15 @@ use Rattle.mc_pack.proofs.renewed as callee
 use Rattle.mc_pack.proofs.renewed.Symbol as callee-def
 use Rattle.mc_pack.proofs.renewed.Symbol.{name as #callee}
 use Rattle.mc_pack.proofs.renewed.Met as callee-thm
-use Rattle.mc_frame.proofs.export.mc_fresh_state.Key.{name as #thin}
-use Rattle.mc_frame.proofs.export.mc_fresh_state as thin
-use Rattle.mc_frame.proofs.export.mc_fresh_state.Statement as stated
-use Rattle.mc_frame.proofs.export.mc_fresh_state.Code as code
+use Rattle.mc_frame.proofs.export.mc_fresh_state_layout.Key.{name as #thin}
+use Rattle.mc_frame.proofs.export.mc_fresh_state_layout as thin
+use Rattle.mc_frame.proofs.export.mc_fresh_state_layout.Statement as stated
+use Rattle.mc_frame.proofs.export.mc_fresh_state_layout.Code as code
 
 abbrev StateS : Slot 1
 StateS = plain (λ _. T.the-row)
 
--- the state is still owned at exit, each `&mut` slice was given to the callee, and nothing is kept of the rest
+-- the state is still owned at exit
 abbrev stayed : Stays (thin.ended .signature .params) (thin.ended .kept)
 stayed = (stay-ref (0 ∷ []) tt StateS, tt)
 
@@ -171,9 +171,9 @@ meets 𝓤 H A W mem run 𝓣 known =
     walk-meets 𝓤 H A thin.ended stayed W (goes-ref 𝓤 H A W 1 0 tt StateS, tt) (thin.clauses 𝓤 H A mem run)
     (WpFn 𝓤 H (𝓣 .C) (𝓣 .Λ) code.function) (WpFn-mono 𝓤 H (W .laws) 𝓣 code.function) (walks 𝓤 H A W mem run (𝓣 .C) (𝓣 .Λ) (fmOf 𝓤 H (W .laws) 𝓣) known)
 
-pub mc-fresh-state-spec : {M : Type 1} → stated.statement M
+pub mc-fresh-state-layout-spec : {M : Type 1} → stated.statement M
 unfolding code.routine tablesOf
-mc-fresh-state-spec 𝓤 H 𝓜 𝓖 𝓡 =
+mc-fresh-state-layout-spec 𝓤 H 𝓜 𝓖 𝓡 =
     entered 𝓤 H (tripleOf 𝓤 H (𝓖 .A) thin.signature (thin.spec 𝓤 H (𝓖 .A) (𝓜 .mem) (𝓡 .run)))
     (tables 𝓤 H 𝓜 𝓡 code.env .C) (tables 𝓤 H 𝓜 𝓡 code.env .Λ) #thin code.function (code.unfolded 𝓤 H 𝓜 𝓡)
     (meets 𝓤 H (𝓖 .A) (givenOf 𝓤 H 𝓜 𝓖) (𝓜 .mem) (𝓡 .run) (tablesOf 𝓤 H 𝓜 (tables 𝓤 H 𝓜 𝓡 code.env))

@@ -1,4 +1,4 @@
--- `mc_frame::mc_decode_frame_reading` meets its contract: a walk of its MIR, by hand. The borrow of the state is opened, the state is copied out and passed to `packed_frame`, the state that comes back is stored, and the borrow is closed at it. The slices go to `packed_frame` for good, at their own lifetimes.
+-- `mc_frame::mc_decode_frame_layout` meets its contract: a walk of its MIR, by hand. The borrow of the state is opened, the state is copied out and passed to `packed_frame`, the state that comes back is stored, and the borrow is closed at it. The slices go to `packed_frame` for good, at their own lifetimes.
 -- All that the proof knows of `packed_frame` is that it meets its contract.
 use mathlib.Core.Path.{_≡_, refl, ap}
 use Prim.Native.Nat.{ℕ, _<_, _^_}
@@ -54,10 +54,10 @@ use Rattle.mc_pack.proofs.packed_frame as callee
 use Rattle.mc_pack.proofs.packed_frame.Symbol as callee-def
 use Rattle.mc_pack.proofs.packed_frame.Symbol.{name as #callee}
 use Rattle.mc_pack.proofs.packed_frame.Met as callee-thm
-use Rattle.mc_frame.proofs.export.mc_decode_frame_reading.Key.{name as #thin}
-use Rattle.mc_frame.proofs.export.mc_decode_frame_reading as thin
-use Rattle.mc_frame.proofs.export.mc_decode_frame_reading.Statement as stated
-use Rattle.mc_frame.proofs.export.mc_decode_frame_reading.Code as code
+use Rattle.mc_frame.proofs.export.mc_decode_frame_layout.Key.{name as #thin}
+use Rattle.mc_frame.proofs.export.mc_decode_frame_layout as thin
+use Rattle.mc_frame.proofs.export.mc_decode_frame_layout.Statement as stated
+use Rattle.mc_frame.proofs.export.mc_decode_frame_layout.Code as code
 
 abbrev StateS : Slot 10
 StateS = plain (λ _. T.the-row)
@@ -259,9 +259,9 @@ meets 𝓤 H A W mem run 𝓣 known =
     walk-meets 𝓤 H A thin.ended stayed W (goes-ref 𝓤 H A W 10 0 tt StateS, (goes-dropped 𝓤 H A W 10 (shrSliceOf (1 ∷ []) tt (plain (λ _. u8))) yes (λ κs x f. refl), (goes-dropped 𝓤 H A W 10 (plain (λ _. usize)) yes (λ κs x f. refl), (goes-dropped 𝓤 H A W 10 (shrSliceOf (2 ∷ []) tt (plain (λ _. u8))) yes (λ κs x f. refl), (goes-dropped 𝓤 H A W 10 (plain (λ _. usize)) yes (λ κs x f. refl), (goes-dropped 𝓤 H A W 10 (plain (λ _. u32)) yes (λ κs x f. refl), (goes-dropped 𝓤 H A W 10 (plain (λ _. u32)) yes (λ κs x f. refl), (goes-dropped 𝓤 H A W 10 (plain (λ _. u8)) yes (λ κs x f. refl), (goes-dropped 𝓤 H A W 10 (shrSliceOf (3 ∷ []) tt (plain (λ _. f64))) yes (λ κs x f. refl), (goes-dropped 𝓤 H A W 10 (shrSliceOf (3 ∷ []) tt (plain (λ _. f64))) yes (λ κs x f. refl), (goes-dropped 𝓤 H A W 10 (shrSliceOf (3 ∷ []) tt (plain (λ _. f64))) yes (λ κs x f. refl), (goes-dropped 𝓤 H A W 10 (shrSliceOf (3 ∷ []) tt (plain (λ _. f64))) yes (λ κs x f. refl), (goes-dropped 𝓤 H A W 10 (shrSliceOf (4 ∷ []) tt (plain (λ _. u32))) yes (λ κs x f. refl), (goes-dropped 𝓤 H A W 10 (plain (λ _. u8)) yes (λ κs x f. refl), (goes-dropped 𝓤 H A W 10 (shrSliceOf (5 ∷ []) tt (plain (λ _. u32))) yes (λ κs x f. refl), (goes-gave-slice 𝓤 H A W 10 6 tt (plain (λ _. f64)), (goes-gave-slice 𝓤 H A W 10 7 tt (plain (λ _. f64)), (goes-gave-slice 𝓤 H A W 10 8 tt (plain (λ _. f64)), (goes-gave-slice 𝓤 H A W 10 9 tt (plain (λ _. f64)), tt))))))))))))))))))) (thin.clauses 𝓤 H A mem run)
     (WpFn 𝓤 H (𝓣 .C) (𝓣 .Λ) code.function) (WpFn-mono 𝓤 H (W .laws) 𝓣 code.function) (walks 𝓤 H A W mem run (𝓣 .C) (𝓣 .Λ) (fmOf 𝓤 H (W .laws) 𝓣) known)
 
-pub mc-decode-frame-reading-spec : {M : Type 1} → stated.statement M
+pub mc-decode-frame-layout-spec : {M : Type 1} → stated.statement M
 unfolding code.routine tablesOf
-mc-decode-frame-reading-spec 𝓤 H 𝓜 𝓖 𝓡 =
+mc-decode-frame-layout-spec 𝓤 H 𝓜 𝓖 𝓡 =
     entered 𝓤 H (tripleOf 𝓤 H (𝓖 .A) thin.signature (thin.spec 𝓤 H (𝓖 .A) (𝓜 .mem) (𝓡 .run)))
     (tables 𝓤 H 𝓜 𝓡 code.env .C) (tables 𝓤 H 𝓜 𝓡 code.env .Λ) #thin code.function (code.unfolded 𝓤 H 𝓜 𝓡)
     (meets 𝓤 H (𝓖 .A) (givenOf 𝓤 H 𝓜 𝓖) (𝓜 .mem) (𝓡 .run) (tablesOf 𝓤 H 𝓜 (tables 𝓤 H 𝓜 𝓡 code.env))

@@ -1,0 +1,107 @@
+-- Sequences of frame calls on one state, accepted and refused, and a change of readings among them (document 02, L7). The calls name their own readings: those
+-- before the change may be under reading 1 and those after it under reading 2.
+pub mod Proof
+use mathlib.Core.Path.{_≡_}
+use mathlib.Core.Bool.{true}
+use mathlib.Core.List.{List, [], _∷_, _++_, map}
+use Prim.Native.Nat.{ℕ}
+use lib.Ieee.{Float}
+use Rattle.bits.specs.Syntax.{Outcome}
+use Rattle.mc_state.specs.declared.McDecodeState.{McDecodeState}
+use Rattle.mc_state.specs.Held.{heldFits}
+use Rattle.mc_state.specs.Carry.{carriedOver}
+use Rattle.mc_state.specs.Frame.{Lent, Buffers, After, frameOf}
+
+-- a frame call, beside the state
+pub record Call : Type 0 where
+  pub lent : Lent
+  pub buffers : Buffers
+
+-- what it answers, and what the buffers hold after it
+pub record Result : Type 0 where
+  pub answer : Outcome ℕ
+  pub buffers : Buffers
+
+abbrev pub calling : Call → McDecodeState → After
+calling c st = frameOf (c .lent) (c .buffers) st
+
+abbrev pub resultOf : After → Result
+resultOf a = record { answer = a .answer; buffers = a .buffers }
+
+-- calls one after another, each on the state that the one before left
+unfoldable pub results : List Call → McDecodeState → List Result
+results [] st = []
+results (c ∷ more) st = resultOf (calling c st) ∷ results more (calling c st .state)
+
+unfoldable pub stateAfter : List Call → McDecodeState → McDecodeState
+stateAfter [] st = st
+stateAfter (c ∷ more) st = stateAfter more (calling c st .state)
+
+-- a state by its history, count, layout and counter
+abbrev pub stateBy : List Float → ℕ → ℕ → ℕ → McDecodeState
+stateBy history count layout tally = record { «pred_hist» = history; «layout_len» = count; layout = layout; accepted = tally }
+
+-- ---- the counter enters no answer, no value and nothing else that is kept
+
+-- all but the counter
+pub record SameReel (st st′ : McDecodeState) : Type 0 where
+  pub history : st .«pred_hist» ≡ st′ .«pred_hist»
+  pub count : st .«layout_len» ≡ st′ .«layout_len»
+  pub layout : st .layout ≡ st′ .layout
+
+-- later calls can not tell two states apart
+pub record SameFrom (cs : List Call) (st st′ : McDecodeState) : Type 0 where
+  pub same : results cs st ≡ results cs st′
+  pub after : SameReel (stateAfter cs st) (stateAfter cs st′)
+
+abbrev pub NeverTheTally : Type 0
+NeverTheTally = (cs : List Call) (st st′ : McDecodeState) → SameReel st st′ → SameFrom cs st st′
+
+-- ---- one change in a sequence
+
+-- what may be lent of a state beside its history
+abbrev pub Holds : McDecodeState → Type 0
+Holds st = heldFits (st .«layout_len») (st .layout) ≡ true
+
+pub data Step : Type 0 where
+  call : Call → Step
+  change : Step
+
+pub data Report : Type 0 where
+  read : Result → Report
+  -- what carrying answered
+  carried : ℕ → Report
+
+unfoldable pub reel : List Step → McDecodeState → List Report
+reel [] st = []
+reel (call c ∷ more) st = read (resultOf (calling c st)) ∷ reel more (calling c st .state)
+reel (change ∷ more) st = carried (carriedOver st .answer) ∷ reel more (carriedOver st .state)
+
+-- a reel that begins with a state that may be lent takes the change, and the calls after it give what they give from that history and count, whatever the
+-- counter
+abbrev pub ChangedInMidReel : Type 0
+ChangedInMidReel =
+    (before after : List Call) (st : McDecodeState) (tally : ℕ) → Holds st
+    → let left = stateAfter before st in
+    reel (map call before ++ change ∷ map call after) st
+    ≡ map read (results before st) ++ carried 0 ∷ map read (results after (stateBy (left .«pred_hist») (left .«layout_len») 0 tally))
+
+-- a carried state of count 0 is as a fresh one, but for its history and counter
+abbrev pub CarriedFresh : Type 0
+CarriedFresh =
+    (cs : List Call) (st : McDecodeState) (tally : ℕ) → Holds st → st .«layout_len» ≡ 0
+    → SameFrom cs (carriedOver st .state) (stateBy (st .«pred_hist») 0 0 tally)
+
+-- ---- calls under reading 1
+
+unfoldable pub UnderFirst : List Call → Type 0
+UnderFirst [] = Unit {0}
+UnderFirst (c ∷ more) = (c .lent .reading ≡ 1) × UnderFirst more
+
+-- they store no layout, and a count only where nothing was held
+pub record Kept (st st′ : McDecodeState) : Type 0 where
+  pub layout : st′ .layout ≡ st .layout
+  pub count : (st .«layout_len» ≡ 0 → ⊥) → st′ .«layout_len» ≡ st .«layout_len»
+
+abbrev pub FirstKeeps : Type 0
+FirstKeeps = (cs : List Call) (st : McDecodeState) → UnderFirst cs → Kept st (stateAfter cs st)
