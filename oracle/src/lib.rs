@@ -10,7 +10,9 @@ include!(concat!(env!("OUT_DIR"), "/published.rs"));
 pub mod bits;
 pub mod flat;
 pub mod generator;
+pub mod held;
 pub mod input;
+pub mod layouts;
 pub mod leaf;
 #[cfg(feature = "frame")]
 pub mod library;
@@ -19,6 +21,7 @@ pub mod phantom;
 pub mod replay;
 pub mod sample;
 pub mod scope;
+pub mod trail;
 
 pub use input::FrameInput;
 pub use mc::{

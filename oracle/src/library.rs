@@ -29,7 +29,7 @@ pub fn frame<'a>(input: &'a FrameInput, flat: &'a Flat) -> Frame<'a> {
 /// The state as the library holds it.
 pub fn held(state: &State) -> McState {
     let history = state.history[..].try_into().expect("576 values");
-    McState::with(history, state.count as u8, state.frames)
+    McState::with(history, state.count as u8, state.layout as u8, state.frames)
 }
 
 /// The state that the library holds.
@@ -37,6 +37,7 @@ pub fn state(held: &McState) -> State {
     State {
         history: held.history().to_vec(),
         count: held.layout_len().into(),
+        layout: held.layout().into(),
         frames: held.accepted(),
     }
 }

@@ -1,15 +1,16 @@
-//! Document 01's side of a frame, with document 02's readings: flat buffers, the state with its
-//! counter, and the four refusals that the published code does not have. Those (6, 7, 8 and 13) are
-//! written here by hand; every other refusal and every value is the reference's, under either reading.
-//! Where reading 2 lifts the phantom limit, the reference is asked about the frame with another centre
-//! code, and refusal 8 goes by the places of that frame.
+//! Document 01's side of a frame, with document 02's readings: flat buffers, the state with its layout
+//! and its counter, carrying, and the four refusals that the published code does not have. Those (6, 7,
+//! 8 and 13), and refusal 5 of a layout that changes without its number of channels, are written here
+//! by hand; every other refusal and every value is the reference's, under either reading. Where reading
+//! 2 lifts the phantom limit, the reference is asked about the frame with another centre code, and
+//! refusal 8 goes by the places of that frame.
 
 use crate::bitalloc::class_of_quantization;
 use crate::generator::writer::put;
 use crate::input::{FrameInput, READINGS, Slots};
-use crate::mc::{McDecodeState, McError};
+use crate::mc::{McChannel, McDecodeState, McError};
 use crate::output::{CentreField, FrameOutput, HeadOutput};
-use crate::{reference_centre, reference_frame, reference_head, reference_places};
+use crate::{layouts, reference_centre, reference_frame, reference_head, reference_places};
 use std::borrow::Cow;
 
 /// A refusal by document 01's number; group and code are 0 except under 2.
@@ -54,6 +55,8 @@ pub struct State {
     pub history: Vec<f64>,
     /// Channels of the layout, 0 for none yet.
     pub count: u32,
+    /// The layout itself by its number in [`layouts`], 0 where it is not known.
+    pub layout: u32,
     /// Accepted frames.
     pub frames: u32,
 }
@@ -63,8 +66,49 @@ impl State {
         State {
             history: vec![0.0; 576],
             count: 0,
+            layout: 0,
             frames: 0,
         }
+    }
+
+    /// Carrying: of a layout the count alone stays, and all else as it was. A wrong count or layout is
+    /// refusal 6, and leaves the state.
+    pub fn carry(&mut self) -> Result<(), Refusal> {
+        if !self.rightly_held() {
+            return Err(Refusal::plain(6));
+        }
+        self.layout = 0;
+        Ok(())
+    }
+
+    /// No reason for refusal 6 in count and layout: at most five channels, and those of the layout where
+    /// it is known.
+    fn rightly_held(&self) -> bool {
+        match self.layout {
+            0 => self.count <= 5,
+            layout => layouts::channels(layout)
+                .is_some_and(|channels| channels.len() == self.count as usize),
+        }
+    }
+
+    /// No reason for refusal 7 in the history.
+    pub fn history_in_range(&self) -> bool {
+        self.history.iter().all(in_range)
+    }
+
+    /// Follows a frame of these channels that the reference accepts after the state's count. Under
+    /// reading 2 a known layout has to be the frame's, which is refusal 5 otherwise, and the frame's is
+    /// stored.
+    fn follow(&mut self, reading: u32, channels: &[McChannel]) -> Result<(), Refusal> {
+        if reading == 2 {
+            if layouts::channels(self.layout).is_some_and(|held| held != channels) {
+                return Err(Refusal::plain(5));
+            }
+            self.layout = layouts::number(channels);
+        }
+        self.count = channels.len() as u32;
+        self.frames = self.frames.saturating_add(1);
+        Ok(())
     }
 }
 
@@ -122,8 +166,7 @@ pub fn judge(input: &FrameInput, state: &mut State) -> Result<FrameOutput, Refus
     let answer = reference_frame(&asked, &mut decoder);
     state.history = decoder.history();
     let frame = FrameOutput { head, ..answer? };
-    state.count = frame.span.layout.len() as u32;
-    state.frames = state.frames.saturating_add(1);
+    state.follow(input.reading, &frame.span.layout)?;
     Ok(frame)
 }
 
@@ -146,7 +189,7 @@ fn rightly_lent(input: &FrameInput, state: &State) -> bool {
             .flatten()
             .all(|&steps| known(steps))
         && state.history.len() == 576
-        && state.count <= 5
+        && state.rightly_held()
 }
 
 /// 0 or one of the 17 step counts.
@@ -157,9 +200,12 @@ fn known(steps: u32) -> bool {
 /// No reason for refusal 7.
 fn values_in_range(input: &FrameInput, state: &State) -> bool {
     let base = input.base_raw.iter().chain(&input.base_scaled);
-    let base = base.flatten().flatten();
-    base.chain(&state.history)
-        .all(|value| (-4.0..=4.0).contains(value))
+    base.flatten().flatten().all(in_range) && state.history_in_range()
+}
+
+/// A value that refusal 7 lets pass.
+fn in_range(value: &f64) -> bool {
+    (-4.0..=4.0).contains(value)
 }
 
 /// The reason for refusal 13: under reading 2 a whole header with centre code 2, whatever follows it.

@@ -1,30 +1,14 @@
 //! The lines of the program `boundary`, written once more from the reference: each line of
 //! crates/boundary/stdout has to be what the published Rust answers to the same frame, or documents 01
-//! and 02 where the Rust has no such refusal or reading.
+//! and 02 where the Rust has no such refusal, reading or carrying.
 
+mod lines;
+
+use lines::{Lines, plan};
 use oracle::generator::Plan;
 use oracle::input::Slots;
 use oracle::output::FrameOutput;
-use oracle::scope::{Refusal, State, judge};
-
-/// The base values of a channel: `start`, and each next one 1/1024 above.
-fn ramp(start: f64) -> Slots {
-    let value = |slot, subband| start + f64::from(32 * slot + subband) / 1024.0;
-    (0..36u16)
-        .map(|slot| std::array::from_fn(|subband| value(slot, subband as u16)))
-        .collect()
-}
-
-/// A frame of zeros, with base values that begin with `left` and, in a second channel, with -1.5.
-fn plan(base_channels: usize, centre: u32, surround: u32, left: f64) -> Plan {
-    let mut plan = Plan::plain(base_channels, centre, surround);
-    plan.base.scaled = [left, -1.5][..base_channels]
-        .iter()
-        .map(|x| ramp(*x))
-        .collect();
-    plan.base.raw = plan.base.scaled.clone();
-    plan
-}
+use oracle::scope::State;
 
 /// 7 steps in one place, whose last scalefactor is `code`.
 fn scalefactor(code: u32) -> Plan {
@@ -79,75 +63,6 @@ fn barred(reading: u32) -> Plan {
     plan.reading = reading;
     plan.payload.steps[0][..13].fill(7);
     plan
-}
-
-/// The history that a base leaves: its last nine slots, one base channel in both halves.
-fn stored(base: &[Slots]) -> Vec<f64> {
-    let sides = [&base[0], base.last().unwrap()];
-    let places = |k: usize| sides[k / 288][27 + k % 9][k / 9 % 32];
-    (0..576).map(places).collect()
-}
-
-/// What a line says of the answer and of the state. After a refusal the reference has no buffers.
-fn said(
-    answer: &Result<FrameOutput, Refusal>,
-    base: &[Slots],
-    before: &State,
-    after: &State,
-) -> String {
-    let mut said = match answer {
-        Ok(frame) => format!(
-            "accepted, {} head bits, {} payload bits",
-            frame.span.head_used, frame.span.payload_used
-        ),
-        Err(refusal) => format!(
-            "refusal {}, group {}, code {}; buffers as they were",
-            refusal.number, refusal.group, refusal.code
-        ),
-    };
-    if before == after {
-        return said + "; state as it was";
-    }
-    assert_eq!(after.history, stored(base));
-    said += &format!(
-        "; history stored, layout count {}, accepted frames {}",
-        after.count, after.frames
-    );
-    if (before.count, before.frames) == (after.count, after.frames) {
-        said += " as they were";
-    }
-    said
-}
-
-/// The lines so far.
-#[derive(Default)]
-struct Lines(Vec<String>);
-
-impl Lines {
-    /// A frame's line; `change` spoils the loan.
-    fn spoiled(
-        &mut self,
-        name: &str,
-        plan: &Plan,
-        state: &mut State,
-        change: impl Fn(&mut oracle::FrameInput),
-    ) -> Result<FrameOutput, Refusal> {
-        let mut input = plan.input();
-        change(&mut input);
-        let before = state.clone();
-        let answer = judge(&input, state);
-        let said = said(&answer, &input.base_scaled, &before, state);
-        self.0.push(format!("{name}: {said}"));
-        answer
-    }
-
-    fn line(&mut self, name: &str, plan: &Plan, state: &mut State) -> Result<FrameOutput, Refusal> {
-        self.spoiled(name, plan, state, |_| ())
-    }
-
-    fn add(&mut self, more: &str) {
-        self.0.last_mut().unwrap().push_str(more);
-    }
 }
 
 fn bits_equal(left: &[Slots], right: &[Slots]) -> bool {
@@ -284,6 +199,59 @@ fn phantom_limits(lines: &mut Lines) {
     let _ = lines.line(name, &barred(2), &mut State::fresh());
 }
 
+/// A layout's name, centre code and surround code.
+type Named = (&'static str, u32, u32);
+
+const THREE_ONE: Named = ("3/1", 1, 1);
+const TWO_TWO: Named = ("2/2", 0, 2);
+const THREE_TWO: Named = ("3/2", 1, 2);
+
+/// The line of a frame under a reading; `then` goes before its name.
+fn follow(lines: &mut Lines, then: &str, named: Named, reading: u32, left: f64, state: &mut State) {
+    let (name, centre, surround) = named;
+    let mut plan = plan(2, centre, surround, left);
+    plan.reading = reading;
+    let _ = lines.line(&format!("{then}{name}, reading {reading}"), &plan, state);
+}
+
+/// 3/1 and 2/2, of four channels each, under readings in turn, then carrying; `then` goes before the
+/// first name.
+fn chain(lines: &mut Lines, then: &str, state: &mut State) {
+    follow(lines, then, THREE_ONE, 1, 0.25, state);
+    for (named, reading, left) in [
+        (TWO_TWO, 1, 0.5),
+        (THREE_ONE, 2, 0.75),
+        (TWO_TWO, 2, 0.125),
+        (TWO_TWO, 1, 0.375),
+        (TWO_TWO, 2, 0.625),
+    ] {
+        follow(lines, "then ", named, reading, left, state);
+    }
+    lines.carried("then carrying", state);
+}
+
+fn carryings(lines: &mut Lines) {
+    let state = &mut State::fresh();
+    chain(lines, "", state);
+    follow(lines, "then ", THREE_TWO, 2, 0.875, state);
+    chain(lines, "then ", state);
+    follow(lines, "then ", TWO_TWO, 2, 0.875, state);
+    lines.carried("fresh state, carrying", &mut State::fresh());
+}
+
+fn wrong_states(lines: &mut Lines) {
+    for (name, count, layout) in [
+        ("layout count 6", 6, 0),
+        ("layout 34 of 4 channels", 4, 34),
+        ("layout 31 of 5 channels", 5, 31),
+    ] {
+        let mut state = State::fresh();
+        (state.count, state.layout) = (count, layout);
+        let _ = lines.line(name, &plan(2, 1, 2, 0.5), &mut state);
+        lines.carried(&format!("{name}, carrying"), &mut state);
+    }
+}
+
 #[test]
 fn each_line_is_what_the_published_rust_answers() {
     let mut lines = Lines::default();
@@ -293,6 +261,8 @@ fn each_line_is_what_the_published_rust_answers() {
     refusals(&mut lines);
     readings(&mut lines);
     phantom_limits(&mut lines);
+    carryings(&mut lines);
+    wrong_states(&mut lines);
     let expected = include_str!("../../crates/boundary/stdout");
     let expected: Vec<&str> = expected.lines().collect();
     assert_eq!(lines.0, expected);

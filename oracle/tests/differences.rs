@@ -193,3 +193,24 @@ fn entry_21_phantom_centre_over_a_mono_base_under_reading_2() {
     plan.head.centre = 1;
     assert_eq!(published(&plan), span);
 }
+
+/// The published state holds a count of channels and no layout: it takes 2/2 after 3/1.
+#[test]
+fn entry_22_layouts_compared_under_reading_2() {
+    let mut frames = [(1, 1), (0, 2)].map(|(centre, surround)| {
+        let plan = Plan::plain(2, centre, surround);
+        plan.input()
+    });
+    let mut decoder = McDecodeState::new();
+    for input in &frames {
+        assert!(reference_frame(input, &mut decoder).is_ok());
+    }
+    for (reading, wanted) in [(1, Ok(())), (2, Err(Refusal::plain(5)))] {
+        let mut state = State::fresh();
+        let answers = frames.each_mut().map(|input| {
+            input.reading = reading;
+            judge(input, &mut state).map(|_| ())
+        });
+        assert_eq!(answers, [Ok(()), wanted]);
+    }
+}

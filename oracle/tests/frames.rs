@@ -13,9 +13,14 @@ const FRAMES: u64 = 4 * Plan::SHAPES;
 
 fn state_for(plan: &Plan, seed: u64) -> State {
     let random = &mut Random::new(!seed);
+    let layout = plan.layout();
+    let (count, number) = (layout.outputs() as u32, layout.number());
+    let history = base::history(random);
+    let (count, layout) = random.pick(&[(0, 0), (count, 0), (count, number)]);
     State {
-        history: base::history(random),
-        count: random.pick(&[0, plan.layout().outputs() as u32]),
+        history,
+        count,
+        layout,
         frames: random.pick(&[0, 7, u32::MAX]),
     }
 }
@@ -179,6 +184,11 @@ fn raw_value(plan: &Plan, channel: usize, subband: usize, slot: usize) -> f64 {
 
 fn state_agrees(plan: &Plan, before: &State, after: &State, seed: u64) {
     assert_eq!(after.count as usize, plan.layout().outputs(), "seed {seed}");
+    let layout = match plan.reading {
+        2 => plan.layout().number(),
+        _ => before.layout,
+    };
+    assert_eq!(after.layout, layout, "seed {seed}");
     assert_eq!(after.frames, before.frames.saturating_add(1));
     for (k, value) in after.history.iter().enumerate() {
         let (base, subband, k) = (k / 288, k / 9 % 32, k % 9);

@@ -1,7 +1,7 @@
 //! In what the two readings differ, and what the comparisons count of it.
 
 use oracle::generator::damage::{self, Part};
-use oracle::generator::layout::{PHANTOM_LIMIT, subband_limit};
+use oracle::generator::layout::{Layout, PHANTOM_LIMIT, subband_limit};
 use oracle::generator::{Plan, Random, base};
 use oracle::input::READINGS;
 use oracle::phantom::{counted, on_amended_head};
@@ -35,8 +35,18 @@ fn said_by_each(input: &FrameInput, state: &State) -> [Said; 2] {
     })
 }
 
+/// Both readings say the same of a frame of this plan that is lent with this state, but that an accepted
+/// one stores its layout under reading 2 and leaves that of the state under reading 1.
+fn same_but_for_the_layout(plan: &Plan, state: &State, [one, mut two]: [Said; 2]) {
+    if two.0.is_ok() {
+        assert_eq!(two.1.layout, plan.layout().number());
+        two.1.layout = state.layout;
+    }
+    assert_eq!(one, two);
+}
+
 /// Under reading 2 centre code 2 is refused, over one base channel too. Every other frame without a
-/// step count at a place that reading 1 bars is the same under both.
+/// step count at a place that reading 1 bars is the same under both, where no layout is held.
 #[test]
 fn readings_differ_in_centre_code_2_and_in_barred_places() {
     for seed in 0..4 * Plan::SHAPES {
@@ -48,9 +58,36 @@ fn readings_differ_in_centre_code_2_and_in_barred_places() {
                 assert_eq!(two.0.unwrap_err().number, 13, "seed {seed}");
                 assert_eq!(two.1, state, "seed {seed}");
             }
-            _ => assert_eq!(one, two, "seed {seed}"),
+            _ => same_but_for_the_layout(&plan, &state, [one, two]),
         }
     }
+}
+
+/// Where a layout is held, reading 2 refuses with 5 what reading 1 accepts, if the frame has another
+/// layout of that count; both store the history. Every other frame is the same under both.
+#[test]
+fn readings_differ_in_layouts_of_one_count() {
+    let mut refused = 0;
+    for seed in 0..4 * Plan::SHAPES {
+        let (plan, (mut state, mut random)) = (Plan::random(seed), drawn(seed));
+        if plan.head.centre == 2 {
+            continue;
+        }
+        let held = Layout::random(&mut random);
+        (state.count, state.layout) = (held.outputs() as u32, held.number());
+        let [one, two] = said_by_each(&plan.input(), &state);
+        let (layout, same) = (plan.layout(), held.number() == plan.layout().number());
+        if held.outputs() != layout.outputs() || same {
+            same_but_for_the_layout(&plan, &state, [one, two]);
+            continue;
+        }
+        refused += 1;
+        assert!(one.0.is_ok(), "seed {seed}");
+        assert_eq!(two.0.unwrap_err().number, 5, "seed {seed}");
+        assert_eq!((one.1.layout, one.1.frames), (state.layout, 1));
+        assert_eq!(two.1, State { frames: 0, ..one.1 }, "seed {seed}");
+    }
+    assert!(refused > 0);
 }
 
 /// Over two base channels the readings bar the same places: each takes or refuses a step count anywhere
@@ -67,11 +104,11 @@ fn readings_agree_over_two_base_channels() {
         let (channel, subband) = (random.below(3) as usize, random.below(32) as usize);
         input.nb_steps[channel][subband] = 3;
         let [one, two] = said_by_each(&input, &state);
-        assert_eq!(one, two, "seed {seed}");
         if plan.head.centre == 3 && channel == 0 && subband >= PHANTOM_LIMIT {
-            assert_eq!(two.0.unwrap_err().number, 8, "seed {seed}");
+            assert_eq!(two.0.as_ref().unwrap_err().number, 8, "seed {seed}");
             barred += 1;
         }
+        same_but_for_the_layout(&plan, &state, [one, two]);
     }
     assert!(barred > 0);
 }
@@ -100,8 +137,14 @@ const SPOILS: [fn(&mut Random, &Plan, &mut FrameInput); 4] = [
     damage::wrong_allocation,
 ];
 
-/// Two answers are the same but for the head, whose centre codes are 3 and 1.
-fn same_but_for_the_centre(three: Said, one: Said) {
+/// Two answers are the same but for the head, whose centre codes are 3 and 1, and for the layout that
+/// the first stores.
+fn same_but_for_the_centre(plan: &Plan, mut three: Said, one: Said) {
+    assert_eq!(one.1.layout, 0);
+    if three.0.is_ok() {
+        assert_eq!(three.1.layout, plan.layout().number());
+        three.1.layout = 0;
+    }
     assert_eq!(three.1, one.1);
     match (three.0, one.0) {
         (Ok(three), Ok(one)) => {
@@ -114,7 +157,7 @@ fn same_but_for_the_centre(three: Said, one: Said) {
 }
 
 /// Under reading 2 a frame over one base channel with a phantom centre is the frame under reading 1
-/// with centre code 1, whole and spoiled.
+/// with centre code 1, whole and spoiled, where no layout is held.
 #[test]
 fn phantom_centre_over_one_base_channel_is_code_1() {
     let mut seen = [0; 9];
@@ -130,7 +173,7 @@ fn phantom_centre_over_one_base_channel_is_code_1() {
             });
             let answer = one.0.as_ref().map_or_else(|refusal| refusal.number, |_| 0);
             seen[answer as usize] += u32::from(heard(&plan));
-            same_but_for_the_centre(three, one);
+            same_but_for_the_centre(&plan, three, one);
         }
     }
     for number in [0, 1, 4, 5, 8] {
@@ -150,7 +193,7 @@ fn phantom_centre_over_one_base_channel_bars_under_reading_1() {
             assert_eq!((one.0.unwrap_err().number, one.1), (8, state));
             refused += 1;
         } else {
-            assert_eq!(one, two);
+            same_but_for_the_layout(&plan, &state, [one, two]);
         }
     }
     assert!(refused > 0);

@@ -25,6 +25,7 @@ fn judged(mut each: impl FnMut(&Record, &FrameInput, Option<&FrameOutput>)) {
         assert_eq!(record.expected.answer, packed(&answer));
         assert_eq!(record.expected.buffers, buffer_hashes(&written));
         assert_eq!(record.expected.state, state_hash(&state));
+        assert_eq!(state.layout, 0);
         each(&record, &input, answer.as_ref().ok());
     }
 }
@@ -54,6 +55,18 @@ fn values_and_hash() {
     assert!(drawn.iter().all(|&bits| f64::from_bits(bits).abs() <= 4.0));
     // FNV-1a of eight zero bytes.
     assert_eq!(Hash::new().floats(&[0.0]).0, 0xA8C7_F832_281A_39C5);
+}
+
+#[test]
+fn hash_of_a_state() {
+    let state = State {
+        history: (0..576).map(f64::from).collect(),
+        count: 4,
+        layout: 31,
+        frames: 7,
+    };
+    let hash = Hash::new().floats(&state.history);
+    assert_eq!(state_hash(&state), hash.number(4).number(31).number(7).0);
 }
 
 #[test]

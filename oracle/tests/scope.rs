@@ -2,9 +2,11 @@
 
 use oracle::FrameInput;
 use oracle::generator::damage::{self, Part, WRONG_READINGS};
+use oracle::generator::layout::Layout;
 use oracle::generator::{Kind, Plan, Random, base};
 use oracle::input::READINGS;
-use oracle::scope::{State, judge};
+use oracle::scope::{Refusal, State, judge};
+use std::collections::BTreeSet;
 
 /// A plan with a history, by its seed.
 fn lent(seed: u64) -> (Plan, State, Random) {
@@ -65,6 +67,72 @@ fn another_reading_is_a_wrong_loan() {
         input.reading = reading;
         assert_eq!(number(&input), 0, "reading {reading}");
     }
+}
+
+/// What may be held: nothing or a lone count, or the layout of any header with its count.
+fn held_rightly() -> BTreeSet<(u32, u32)> {
+    let layouts = Layout::all().map(|layout| (layout.outputs() as u32, layout.number()));
+    layouts.chain((0..=5).map(|count| (count, 0))).collect()
+}
+
+/// Any other count and layout is a wrong loan of a frame under either reading, and so it is of carrying.
+#[test]
+fn wrong_counts_and_layouts() {
+    let right = held_rightly();
+    assert_eq!(right.len(), 6 + 12);
+    let inputs = READINGS.map(|reading| {
+        let mut input = Plan::plain(2, 0, 0).input();
+        input.reading = reading;
+        input
+    });
+    let mut state = State::fresh();
+    for (count, layout) in (0..=256).flat_map(|count| (0..=256).map(move |n| (count, n))) {
+        (state.count, state.layout) = (count, layout);
+        let right = right.contains(&(count, layout));
+        for input in &inputs {
+            let mut after = state.clone();
+            let answer = judge(input, &mut after);
+            let wrong = answer == Err(Refusal::plain(6));
+            assert_eq!(wrong, !right, "layout {layout} of {count}");
+            assert!(right || after == state);
+        }
+        let mut after = state.clone();
+        let wrong = after.carry() == Err(Refusal::plain(6));
+        assert_eq!(wrong, !right, "layout {layout} of {count}");
+        assert!(right || after == state);
+    }
+}
+
+/// A frame of 2/2 after 3/1 under reading 2, with many faults that are mended one after another.
+#[test]
+fn other_layout_comes_last() {
+    let mut plan = Plan::plain(2, 0, 2);
+    plan.reading = 2;
+    plan.head.lfe = true;
+    plan.head.layer_three = true;
+    plan.payload.lfe_allocation = 1;
+    plan.payload.lfe_scalefactor = 63;
+    let mut state = State::fresh();
+    (state.count, state.layout) = (4, 34);
+    state.history[0] = 5.0;
+    let number = |plan: &Plan, state: &State| {
+        let answer = judge(&plan.input(), &mut state.clone());
+        answer.map_or_else(|refusal| refusal.number, |_| 0)
+    };
+    assert_eq!(number(&plan, &state), 6);
+    state.layout = 31;
+    assert_eq!(number(&plan, &state), 7);
+    state.history[0] = 4.0;
+    assert_eq!(number(&plan, &state), 3);
+    plan.head.layer_three = false;
+    assert_eq!(number(&plan, &state), 4);
+    plan.payload.lfe_scalefactor = 62;
+    assert_eq!(number(&plan, &state), 5);
+    plan.reading = 1;
+    assert_eq!(number(&plan, &state), 0);
+    plan.reading = 2;
+    state.layout = 22;
+    assert_eq!(number(&plan, &state), 0);
 }
 
 /// From the header's last bit on, whether a check word follows or not.
@@ -131,9 +199,10 @@ fn bounds_of_values_are_in() {
 #[test]
 fn refused_frames_leave_the_state_but_for_the_history_of_5() {
     let mut seen = [0; 14];
+    let held: Vec<(u32, u32)> = held_rightly().into_iter().collect();
     for seed in 0..8 * Plan::SHAPES {
         let (plan, mut state, mut random) = lent(seed);
-        state.count = random.below(6);
+        (state.count, state.layout) = random.pick(&held);
         let mut input = plan.input();
         input.reading = random.pick(&READINGS);
         spoil_bits(&mut random, &plan, &mut input);
@@ -144,9 +213,10 @@ fn refused_frames_leave_the_state_but_for_the_history_of_5() {
         };
         seen[refusal.number as usize] += 1;
         if refusal.number == 5 {
-            assert_eq!((state.count, state.frames), (before.count, before.frames));
             let newest = input.base_scaled[0][35][0];
             assert_eq!(state.history[8].to_bits(), newest.to_bits());
+            state.history = before.history.clone();
+            assert_eq!(state, before, "seed {seed}");
         } else {
             assert_eq!(state, before, "seed {seed}");
         }

@@ -1,6 +1,6 @@
 //! Ways to spoil a frame: cuts, flips, noise, and loans that document 01 refuses.
 
-use super::layout::STEPS;
+use super::layout::{Layout, STEPS};
 use super::plan::{Plan, Source};
 use super::random::Random;
 use super::writer::{Field, put};
@@ -69,7 +69,7 @@ pub fn wrong_loan(random: &mut Random, input: &mut FrameInput, state: &mut State
     match random.below(7) {
         0 => input.sample_rate = random.pick(&[0, 22_050, 24_000, 44_101, 96_000]),
         1 => input.lfe_allocation = random.pick(&[16, 17, u32::MAX]),
-        2 => state.count = random.pick(&[6, 7, u32::MAX]),
+        2 => wrong_held(random, state),
         3 => {
             let channel = random.below(input.base_channels as u32) as usize;
             input.base_nb_steps[channel][place(random, 32)] = unknown_steps(random);
@@ -81,6 +81,58 @@ pub fn wrong_loan(random: &mut Random, input: &mut FrameInput, state: &mut State
         5 => string(input, part).0.resize(8193, 0),
         _ => drop_slot(random, input),
     }
+}
+
+/// Another count and layout: that of any header, at times unknown and at times with a wrong count.
+pub fn other_layout(random: &mut Random, state: &mut State) {
+    let layout = Layout::random(random);
+    let (own, any) = (layout.outputs() as u32, random.below(6));
+    state.layout = random.pick(&[0, layout.number(), layout.number()]);
+    state.count = random.pick(&[own, own, own, any]);
+}
+
+/// A state of refusal 6: a count above 5, a layout that no header gives, or a count that is not its
+/// layout's.
+pub fn wrong_held(random: &mut Random, state: &mut State) {
+    match random.below(3) {
+        0 => state.count = random.pick(&[6, 7, 255]),
+        1 => state.layout = wrong_layout(random),
+        _ => {
+            let layout = Layout::random(random);
+            state.layout = layout.number();
+            state.count = (layout.outputs() as u32 + 1 + random.below(5)) % 6;
+        }
+    }
+}
+
+/// A layout that no header gives: by its front, 0 or above 3, or by its surround code, above 3.
+pub fn wrong_layout(random: &mut Random) -> u32 {
+    let near = 10 * random.below(4) + 4 + random.below(6);
+    let above = 40 + random.below(216);
+    random.pick(&[1, 2, 3, near, near, above])
+}
+
+/// Any floats in the history, one place in four: each kind of NaN, infinities, zeros and the rest.
+pub fn wild_history(random: &mut Random, state: &mut State) {
+    for value in &mut state.history {
+        if random.chance(1, 4) {
+            *value = any_float(random);
+        }
+    }
+}
+
+/// Any bits; a NaN with any of them or with the lowest alone; an infinity; a zero. Either sign.
+fn any_float(random: &mut Random) -> f64 {
+    let (bits, infinity) = (random.bits64(), f64::INFINITY.to_bits());
+    let sign = bits & 1 << 63;
+    let kinds = [
+        bits,
+        bits | infinity,
+        sign | infinity | 1,
+        sign | infinity,
+        sign,
+    ];
+    f64::from_bits(random.pick(&kinds))
 }
 
 /// One slot fewer in a base channel.

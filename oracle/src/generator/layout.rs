@@ -1,6 +1,8 @@
 //! Layouts, crosstalk codes and roles, written down from documents 01 and 02 and ISO/IEC 13818-3
 //! §2.5.2.15 apart from the published code, so that what is generated does not lean on what is tested.
 
+use super::random::Random;
+
 /// The first subband that a phantom centre bars.
 pub const PHANTOM_LIMIT: usize = 12;
 
@@ -46,6 +48,17 @@ impl Layout {
         }
     }
 
+    /// The layouts of all headers over one and two base channels, many of them more than once.
+    pub fn all() -> impl Iterator<Item = Layout> {
+        (0..32).map(|k| Layout::of(1 + k as usize % 2, k / 2 % 4, k / 8))
+    }
+
+    /// One of them.
+    pub fn random(random: &mut Random) -> Layout {
+        let base_channels = 1 + random.below(2) as usize;
+        Layout::of(base_channels, random.below(4), random.below(4))
+    }
+
     /// Extension channels: the main ones, then those of a second stereo programme.
     pub fn channels(&self) -> usize {
         self.main + if self.second_stereo { 2 } else { 0 }
@@ -55,6 +68,12 @@ impl Layout {
     pub fn outputs(&self) -> usize {
         let second = if self.second_stereo { 2 } else { 0 };
         usize::from(self.front + self.surround) + second
+    }
+
+    /// The number by which a state holds the layout: ten times the front and the header's surround code.
+    pub fn number(&self) -> u32 {
+        let surround = if self.second_stereo { 3 } else { self.surround };
+        u32::from(10 * self.front + surround)
     }
 
     /// Whether a phantom centre bars a place: one of the first extension channel, from

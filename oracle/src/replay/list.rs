@@ -56,7 +56,8 @@ impl List {
     fn push_whole(&mut self, frame: &Made, anyway: bool) {
         let count = frame.plan.layout().outputs() as u8;
         let mut record = self.record(frame);
-        let fits = [0, count.into()].contains(&self.state.count) && sound(&self.state);
+        let follows = [0, count.into()].contains(&self.state.count);
+        let fits = follows && self.state.history_in_range();
         if anyway || !fits {
             let starts = [(0, 0), (0, 5), (count, 1), (count, u32::MAX)];
             record.start = Some(self.random.pick(&starts));
@@ -80,12 +81,6 @@ impl List {
             }
         }
     }
-}
-
-/// No state of refusals 6 and 7.
-fn sound(state: &State) -> bool {
-    let inside = |value: &f64| (-4.0..=4.0).contains(value);
-    state.count <= 5 && state.history.iter().all(inside)
 }
 
 /// The refusal of a frame after this state, which stays.

@@ -39,7 +39,7 @@ pub struct Record {
     /// Whether the second base channel is lent.
     pub right: bool,
     pub lfe_allocation: u8,
-    /// Layout count and accepted frames of a new state.
+    /// Layout count and accepted frames of a new state, whose layout is not known.
     pub start: Option<(u8, u32)>,
     /// The kind, 0 for none, and the place of a wild value.
     pub wild: (u8, u16),
@@ -125,6 +125,7 @@ impl Record {
         let state = self.start.map(|(count, frames)| State {
             history,
             count: count.into(),
+            layout: 0,
             frames,
         });
         (input, state)

@@ -73,9 +73,9 @@ pub fn buffer_hashes(buffers: &Buffers) -> [u64; 4] {
     [raw, work, output, lfe].map(|values| Hash::new().floats(values).0)
 }
 
-/// The hash of a state: its history, its layout count and its accepted frames.
+/// The hash of a state: its history, its layout count, its layout and its accepted frames.
 pub fn state_hash(state: &State) -> u64 {
     let history = Hash::new().floats(&state.history);
-    let count = history.number(u64::from(state.count));
-    count.number(u64::from(state.frames)).0
+    let numbers = [state.count, state.layout, state.frames].map(u64::from);
+    numbers.into_iter().fold(history, Hash::number).0
 }

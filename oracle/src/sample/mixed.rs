@@ -20,6 +20,7 @@ pub fn mixed(seed: u64) -> File {
         kind => State {
             history: base::history(random),
             count: [0, outputs as u32][kind as usize - 1],
+            layout: 0,
             frames: random.below(u32::MAX),
         },
     };

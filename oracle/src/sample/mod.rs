@@ -16,7 +16,7 @@ use crate::scope::State;
 /// The first bytes of a file.
 pub const NAME: &[u8; 8] = b"MCFRAMES";
 
-/// A state and the frames that follow on it.
+/// A state, whose layout is not known, and the frames that follow on it.
 #[derive(Debug, Clone, PartialEq)]
 pub struct File {
     pub state: State,
@@ -51,6 +51,7 @@ impl File {
             0 => State::fresh(),
             1 => State {
                 count: u32::from(rest.u8()?),
+                layout: 0,
                 frames: rest.u32()?,
                 history: rest.values(576)?,
             },

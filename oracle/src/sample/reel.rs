@@ -13,6 +13,7 @@ pub fn reel() -> File {
     let state = State {
         history,
         count: 5,
+        layout: 0,
         frames: 100,
     };
     let frames = (0..6).map(|k| match k {

@@ -72,7 +72,7 @@ impl Case {
 }
 
 /// The ways in the order in which they are combined: bits first, then counts, then the rest.
-const SPOILS: [Way<Case>; 25] = [
+const SPOILS: [Way<Case>; 27] = [
     Way::Input(spoil::HEAD_BIT),
     Way::Input(spoil::PAYLOAD_BIT),
     Way::Input(spoil::HEAD_FIELD),
@@ -100,7 +100,13 @@ const SPOILS: [Way<Case>; 25] = [
     })),
     Way::Input(spoil::ALLOCATION),
     Way::Case(("other layout count", |random, _, case| {
-        all(|| case.state.count = random.below(6))
+        all(|| (case.state.count, case.state.layout) = (random.below(6), 0))
+    })),
+    Way::Case(("other layout", |random, _, case| {
+        all(|| damage::other_layout(random, &mut case.state))
+    })),
+    Way::Case(("wrong layout", |random, _, case| {
+        all(|| case.state.layout = damage::wrong_layout(random))
     })),
     Way::Case(("other counter", |random, _, case| {
         all(|| case.state.frames = random.pick(&[0, 1, u32::MAX - 1, u32::MAX]))
@@ -121,7 +127,6 @@ const SPOILS: [Way<Case>; 25] = [
 /// Spoils a case in one to three ways.
 pub fn spoil(random: &mut Random, made: &Made, case: &mut Case) {
     case.done = spoil::spoil(random, made, case, |case| &mut case.input, &SPOILS);
-    case.state.count = case.state.count.min(255);
     case.input.lfe_allocation = case.input.lfe_allocation.min(255);
 }
 

@@ -59,6 +59,8 @@ pub fn same_state(found: &McState, wanted: &scope::State) -> Compared {
     same_floats("history", found.history(), &wanted.history)?;
     let count = u64::from(found.layout_len());
     same_number("layout count", count, u64::from(wanted.count))?;
+    let layout = u64::from(found.layout());
+    same_number("layout", layout, u64::from(wanted.layout))?;
     let frames = u64::from(found.accepted());
     same_number("accepted frames", frames, u64::from(wanted.frames))
 }

@@ -1,7 +1,8 @@
 //! Compares the proved library with the published Rust and document 01: every answer, every buffer and
-//! the state, in all bits. Ends with status 1 at the first difference.
+//! the state, in all bits, of frames and of carryings. Ends with status 1 at the first difference.
 
 mod case;
+mod cells;
 mod coverage;
 mod heads;
 mod lent;
@@ -14,7 +15,7 @@ use std::time::Instant;
 use work::Work;
 
 const USAGE: &str = "usage: differential MODE [NUMBER [SEED]]
-  frames    sequences of frames, whole and spoiled, until NUMBER frames are compared
+  frames    sequences of frames, whole and spoiled, with carryings, until NUMBER frames are compared
   cuts      NUMBER frames, one of the longest and one that reading 1 refuses among them, cut at every bit
   heads     heads of every shape, whole and cut at every bit, until NUMBER heads are compared
   sequence  the piece of that NUMBER of a run of frames
@@ -52,9 +53,13 @@ fn main() -> ExitCode {
         println!("{line}");
     }
     let (frames, seconds) = (work.frames(), begin.elapsed().as_secs_f64());
+    let of_frames = name.starts_with("frames");
+    if of_frames {
+        println!("{}", coverage.changes());
+    }
     println!("{name}: {frames} frames compared in {seconds:.0} s, no difference");
     let missing = coverage.missing();
-    if name.starts_with("frames") && frames >= LONG && !missing.is_empty() {
+    if of_frames && frames >= LONG && !missing.is_empty() {
         println!("NOT REACHED: {}", missing.join(", "));
         return ExitCode::FAILURE;
     }

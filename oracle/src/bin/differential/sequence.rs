@@ -1,10 +1,12 @@
 //! Sequences of frames through one state: spoiled ones, then the whole one, then the next plan. Each
-//! plan is drawn, and each frame lent, under a reading drawn at random.
+//! plan is drawn, and each frame lent, under a reading drawn at random; before some frames the state is
+//! carried.
 
 use crate::case::{Case, spoil};
 use crate::lent::Compared;
-use crate::run::{Run, words};
-use oracle::generator::damage::{Part, cut};
+use crate::run::{Run, state_words, words};
+use oracle::generator::damage::{self, Part, cut};
+use oracle::generator::layout::Layout;
 use oracle::generator::{Made, Plan, Random, base};
 use oracle::input::READINGS;
 use oracle::scope::State;
@@ -16,10 +18,13 @@ const PLANS: u32 = 8;
 /// Of so many plans one is cut at every bit, if it is short.
 const CUT_ONE_OF: u32 = 1024;
 
-/// The number of output channels of each shape.
-static OUTPUTS: LazyLock<Vec<u32>> = LazyLock::new(|| {
+/// Before one of so many frames the state is carried, and before as many another one is.
+const CARRY_ONE_OF: u32 = 8;
+
+/// The layout of each shape.
+static LAYOUTS: LazyLock<Vec<Layout>> = LazyLock::new(|| {
     let shapes = (0..Plan::SHAPES).map(Plan::plain_of_shape);
-    shapes.map(|plan| plan.layout().outputs() as u32).collect()
+    shapes.map(|plan| plan.layout()).collect()
 });
 
 /// A failed comparison and the case in words.
@@ -36,10 +41,11 @@ pub fn sequence(run: &mut Run, seed: u64, number: u64) -> Result<(), Stopped> {
     let mut random = Random::new(Random::new(seed ^ number.rotate_left(32)).bits64());
     start(run, &mut random).map_err(|difference| (difference, "fresh state".to_string()))?;
     for step in 0..PLANS {
-        let shape = shape(&mut random, run.state.count);
+        let shape = shape(&mut random, &run.state);
         let reading = random.pick(&READINGS);
         let made = Made::of(Plan::of_shape_under(reading, shape, random.bits64()));
         for _ in 0..random.below(6) {
+            carryings(run, &mut random)?;
             let mut case = Case::of(&made, &run.state, random.pick(&READINGS));
             spoil(&mut random, &made, &mut case);
             compare(run, &case, || {
@@ -49,11 +55,45 @@ pub fn sequence(run: &mut Run, seed: u64, number: u64) -> Result<(), Stopped> {
         if random.chance(1, CUT_ONE_OF) && made.payload.bits < 3000 {
             every_cut(run, &made, &mut random)?;
         }
+        carryings(run, &mut random)?;
         let mut case = Case::of(&made, &run.state, random.pick(&READINGS));
         case.done.push("nothing");
         compare(run, &case, || format!("step {step}, shape {shape}"))?;
     }
+    run.end();
     Ok(())
+}
+
+/// At times carries the state, and at times one that has any count, layout and history.
+fn carryings(run: &mut Run, random: &mut Random) -> Result<(), Stopped> {
+    let stopped =
+        |difference, state: &State| (difference, format!("carrying, {}", state_words(state)));
+    if random.chance(1, CARRY_ONE_OF) {
+        let before = run.state.clone();
+        run.carry()
+            .map_err(|difference| stopped(difference, &before))?;
+    }
+    if random.chance(1, CARRY_ONE_OF) {
+        let state = any_state(random, &run.state);
+        run.carry_apart(&state)
+            .map_err(|difference| stopped(difference, &state))?;
+    }
+    Ok(())
+}
+
+/// A state with a count and a layout that are wrong half of the time, and as often with a history that
+/// no frame may be lent.
+fn any_state(random: &mut Random, state: &State) -> State {
+    let mut state = state.clone();
+    match random.below(4) {
+        0 => {}
+        1 => damage::other_layout(random, &mut state),
+        _ => damage::wrong_held(random, &mut state),
+    }
+    if random.flag() {
+        damage::wild_history(random, &mut state);
+    }
+    state
 }
 
 /// A frame cut at every bit, then whole; the first is one of the longest, the second one that reading 1
@@ -96,26 +136,36 @@ pub fn every_cut(run: &mut Run, made: &Made, random: &mut Random) -> Result<(), 
     Ok(())
 }
 
-/// A fresh state half of the time, else one in the middle of a stream.
+/// A fresh state half of the time, else one in the middle of a stream: nothing held, a lone count or a
+/// layout.
 fn start(run: &mut Run, random: &mut Random) -> Compared {
     if random.flag() {
         return run.start_fresh();
     }
+    let layout = Layout::random(random);
+    let (count, number) = (layout.outputs() as u32, layout.number());
+    let (count, layout) = random.pick(&[(0, 0), (count, 0), (count, 0), (count, number)]);
     run.start_from(State {
         history: base::history(random),
-        count: random.pick(&[0, 1, 2, 3, 4, 5, 5]),
+        count,
+        layout,
         frames: random.pick(&[0, 1, 1000, u32::MAX - 2, u32::MAX]),
     });
     Ok(())
 }
 
-/// A shape with this number of output channels, and one time in eight any; most have a stereo base.
-fn shape(random: &mut Random, count: u32) -> u64 {
-    let any = count == 0 || random.chance(1, 8);
+/// A shape with the number of output channels that is held, half of the time with the layout if that is
+/// known, and one time in eight any; most have a stereo base.
+fn shape(random: &mut Random, state: &State) -> u64 {
+    let any = state.count == 0 || random.chance(1, 8);
+    let any_of_count = state.layout == 0 || random.flag();
     loop {
         let shape = random.below(Plan::SHAPES as u32);
+        let layout = &LAYOUTS[shape as usize];
+        let counted = layout.outputs() as u32 == state.count;
+        let held = counted && (any_of_count || layout.number() == state.layout);
         let stereo = shape.is_multiple_of(2);
-        if (any || OUTPUTS[shape as usize] == count) && (stereo || random.chance(1, 4)) {
+        if (any || held) && (stereo || random.chance(1, 4)) {
             return u64::from(shape);
         }
     }

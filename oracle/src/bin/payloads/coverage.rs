@@ -162,10 +162,8 @@ fn layout_name(front: u8, surround: u8, second_stereo: bool) -> String {
 /// Every cell that a run over all shapes reaches in time.
 fn wanted() -> Vec<(&'static str, String)> {
     let numbers = |range: std::ops::Range<u32>| range.map(|n| n.to_string()).collect();
-    let layouts = (0..32).map(|k| {
-        let layout = Layout::of(1 + k as usize % 2, k / 2 % 4, k / 8);
-        layout_name(layout.front, layout.surround, layout.second_stereo)
-    });
+    let layouts = Layout::all()
+        .map(|layout| layout_name(layout.front, layout.surround, layout.second_stereo));
     let words = |words: &[&str]| words.iter().map(|word| word.to_string()).collect();
     let kinds: [(&'static str, Vec<String>); 17] = [
         ("answer", words(&["accepted"])),
