@@ -17,7 +17,7 @@ use Rattle.mc_config.specs.Config.{hasCentre, surroundOf, configOf, frontChanne
 use Rattle.mc_config.specs.declared.McHeader.{McHeader}
 use Rattle.mc_config.specs.ConfigLaws.{front-length, surround-length}
 use Rattle.mc_payload.specs.declared.McSettings.{McSettings}
-use Rattle.mc_payload.specs.Places.{config, pair}
+use Rattle.mc_payload.specs.Places.{config}
 use Rattle.mc_payload.specs.Demand3.Accepted.{both-true, second-true}
 use Rattle.mc_output.specs.Output.{channels}
 use Rattle.mc_state.specs.Held.{isLayout, layoutAt, layoutBy, layoutFor, heldFits, sameLayout, followsBy, follows, layoutAfter}
@@ -35,15 +35,6 @@ layout-fits (suc (suc (suc (suc n)))) h = absurd (omega arith)
 -- a layout has a front
 pub layout-long : (n : ℕ) → 1 ≤ length (layoutAt n)
 layout-long n = rw (length-append (frontChannels (n / 10)) (surroundChannels (surroundOf (n % 10)) (eqb (n % 10) 3))) (omega (arith, front-length (n / 10)))
-
--- front and surround as one number, and 3 for a second stereo programme
-pub layout-pair : (s : McSettings) → layoutFor s ≡ pair s + cond (config s .«second_stereo») 3 0
-unfolding configOf
-layout-pair s = go (eqb (s .header .surround) 3) refl
-  where
-    go : (t : Bool) → eqb (s .header .surround) 3 ≡ t → 10 * config s .front + s .header .surround ≡ 10 * config s .front + cond t 0 (s .header .surround) + cond t 3 0
-    go true e = let q : s .header .surround ≡ 3 = eqb-true (s .header .surround) 3 e in omega arith
-    go false e = omega arith
 
 module _ (s : McSettings) (h : s .header .surround ≤ 3) where
   front-most : config s .front ≤ 3

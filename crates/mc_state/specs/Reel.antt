@@ -10,7 +10,7 @@ use Rattle.bits.specs.Syntax.{Outcome}
 use Rattle.mc_state.specs.declared.McDecodeState.{McDecodeState}
 use Rattle.mc_state.specs.Held.{heldFits}
 use Rattle.mc_state.specs.Carry.{carriedOver}
-use Rattle.mc_state.specs.Frame.{Lent, Buffers, After, frameOf}
+use Rattle.mc_state.specs.Frame.{Lent, Buffers, After, frameOf, fresh}
 
 -- a frame call, beside the state
 pub record Call : Type 0 where
@@ -63,6 +63,9 @@ NeverTheTally = (cs : List Call) (st st′ : McDecodeState) → SameReel st st�
 abbrev pub Holds : McDecodeState → Type 0
 Holds st = heldFits (st .«layout_len») (st .layout) ≡ true
 
+abbrev pub FreshHolds : Type 0
+FreshHolds = Holds fresh
+
 pub data Step : Type 0 where
   call : Call → Step
   change : Step
@@ -90,7 +93,7 @@ ChangedInMidReel =
 abbrev pub CarriedFresh : Type 0
 CarriedFresh =
     (cs : List Call) (st : McDecodeState) (tally : ℕ) → Holds st → st .«layout_len» ≡ 0
-    → SameFrom cs (carriedOver st .state) (stateBy (st .«pred_hist») 0 0 tally)
+    → SameFrom cs (carriedOver st .state) (stateBy (st .«pred_hist») (fresh .«layout_len») (fresh .layout) tally)
 
 -- ---- calls under reading 1
 

@@ -30,10 +30,10 @@ use Rattle.mc_state.specs.declared.McDecodeState.{McDecodeState}
 use Rattle.mc_state.specs.Held.{layoutFor, heldFits, sameLayout, follows, layoutAfter}
 use Rattle.mc_state.specs.HeldLaws.{layout-for, layout-is, held-some}
 use Rattle.mc_state.specs.Carry.{carriedOver}
-use Rattle.mc_state.specs.Frame.{Lent, Buffers, Verdict, refusal, changed, frame, After, settingsFor, lentBy, verdictUnpacked, verdictHead, verdictOf, stateOf, frameOf}
+use Rattle.mc_state.specs.Frame.{Lent, Buffers, Verdict, refusal, changed, frame, After, settingsFor, lentBy, verdictUnpacked, verdictHead, verdictOf, stateOf, frameOf, fresh}
 use Rattle.mc_state.specs.Demand1.{Left, Written}
 use Rattle.mc_state.specs.Demand1.Proof.{refused-leaves, accepted-writes}
-use Rattle.mc_state.specs.Reel.{Call, calling, resultOf, results, stateAfter, stateBy, SameReel, NeverTheTally, Holds, call, read, carried, reel, ChangedInMidReel, CarriedFresh, UnderFirst, Kept, FirstKeeps}
+use Rattle.mc_state.specs.Reel.{Call, calling, resultOf, results, stateAfter, stateBy, SameReel, NeverTheTally, Holds, FreshHolds, call, read, carried, reel, ChangedInMidReel, CarriedFresh, UnderFirst, Kept, FirstKeeps}
 
 -- ---- one call, on two states that differ in the counter
 
@@ -182,8 +182,12 @@ changed-in-mid-reel [] after st tally e =
 changed-in-mid-reel (c ∷ before) after st tally e =
     ap (λ t. read (resultOf (calling c st)) ∷ t) (changed-in-mid-reel before after (calling c st .state) tally (held-fits c st e))
 
+pub fresh-holds : FreshHolds
+unfolding fresh
+fresh-holds = refl
+
 pub carried-fresh : CarriedFresh
-unfolding carriedOver
+unfolding carriedOver fresh
 carried-fresh cs st tally e z =
     rw (e, z) (never-the-tally cs (stateBy (st .«pred_hist») 0 0 (st .accepted)) (stateBy (st .«pred_hist») 0 0 tally) (record { history = refl; count = refl; layout = refl }))
 

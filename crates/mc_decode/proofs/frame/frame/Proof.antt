@@ -9,13 +9,19 @@ lent-fits-requires : tie.Need-lent-fits-requires
 lent-fits-requires c κs = search needs
 
 returns : tie.Need-returns
-returns c = let a = (c .before .before .before .before .before .before .before .before .before .before .before .before .before .before .args) in after-lent _ (buffersFrom (a .raw .now) (a .work .now) (a .output .now) (a .lfe .now)) (a .t1) _ (c .before .lent-fits .ensures) (c .if1 .taken)
+returns c =
+    let a = c .before .before .before .before .before .before .before .before .before .before .before .before .before .before .args in
+    after-lent _ (buffersFrom (a .raw .now) (a .work .now) (a .output .now) (a .lfe .now)) (a .t1) _ (c .before .lent-fits .ensures) (c .if1 .taken)
 
 values-fit-requires : tie.Need-values-fit-requires
 values-fit-requires c κs = search needs
 
 returns-2 : tie.Need-returns-2
-returns-2 c = let a = (c .before .before .before .before .before .before .before .before .before .before .before .before .before .before .before .before .before .before .args) in after-values _ (buffersFrom (a .raw .now) (a .work .now) (a .output .now) (a .lfe .now)) (a .t1) _ (c .before .before .before .before .before .lent-fits .ensures) (c .before .before .before .before .if1 .left) _ (c .before .values-fit .ensures) (c .if2 .taken)
+returns-2 c =
+    let a = c .before .before .before .before .before .before .before .before .before .before .before .before .before .before .before .before .before .before .args in
+    let lent = c .before .before .before .before .before .lent-fits .ensures in
+    let fits = c .before .before .before .before .if1 .left in
+    after-values _ (buffersFrom (a .raw .now) (a .work .now) (a .output .now) (a .lfe .now)) (a .t1) _ lent fits _ (c .before .values-fit .ensures) (c .if2 .taken)
 
 read-head-requires : tie.Need-read-head-requires
 read-head-requires c κs = search needs
@@ -27,14 +33,29 @@ enum-known-answer-2 : tie.Need-enum-known-answer-2
 enum-known-answer-2 c = search needs
 
 unpacked-frame-requires : tie.Need-unpacked-frame-requires
-unpacked-frame-requires c κs = let a = (c .before .before .before .before .before .before .before .before .before .before .before .before .before .before .before .before .before .before .before .before .before .before .before .before .before .before .before .before .args) in
-    let h = (c .before .before .before .before .before .before .before .before .before .read-head) in
-    (long _ (buffersFrom (a .raw .now) (a .work .now) (a .output .now) (a .lfe .now)) (a .t1) _ (c .before .before .before .before .before .before .before .before .before .before .before .before .before .before .before .lent-fits .ensures) (c .before .before .before .before .before .before .before .before .before .before .before .before .before .before .if1 .left), (lfe-low _ (buffersFrom (a .raw .now) (a .work .now) (a .output .now) (a .lfe .now)) (a .t1) _ (c .before .before .before .before .before .before .before .before .before .before .before .before .before .before .before .lent-fits .ensures) (c .before .before .before .before .before .before .before .before .before .before .before .before .before .before .if1 .left), surround-low _ (buffersFrom (a .raw .now) (a .work .now) (a .output .now) (a .lfe .now)) (a .t1) _ (c .before .before .before .before .before .before .before .before .before .before .before .before .before .before .before .lent-fits .ensures) (c .before .before .before .before .before .before .before .before .before .before .before .before .before .before .if1 .left) _ (c .before .before .before .before .before .before .before .before .before .before .before .values-fit .ensures) (c .before .before .before .before .before .before .before .before .before .before .if2 .left) (h .result) (h .ensures .0) (c .before .before .before .before .before .before .before .answer2 .given .0 .0) (c .before .before .before .before .before .before .before .answer2 .given .1)))
+unpacked-frame-requires c κs =
+    let a = c .before .before .before .before .before .before .before .before .before .before .before .before .before .before .before .before .before .before .before .before .before .before .before .before .before .before .before .before .args in
+    let w = buffersFrom (a .raw .now) (a .work .now) (a .output .now) (a .lfe .now) in
+    let lent = c .before .before .before .before .before .before .before .before .before .before .before .before .before .before .before .lent-fits .ensures in
+    let fits = c .before .before .before .before .before .before .before .before .before .before .before .before .before .before .if1 .left in
+    let values = c .before .before .before .before .before .before .before .before .before .before .before .values-fit .ensures in
+    let within = c .before .before .before .before .before .before .before .before .before .before .if2 .left in
+    let h = c .before .before .before .before .before .before .before .before .before .read-head in
+    let read = c .before .before .before .before .before .before .before .answer2 .given in (
+      long _ w (a .t1) _ lent fits,
+      (lfe-low _ w (a .t1) _ lent fits, surround-low _ w (a .t1) _ lent fits _ values within (h .result) (h .ensures .0) (read .0 .0) (read .1)),
+    )
 
 returns-3 : tie.Need-returns-3
-returns-3 c = let a = (c .before .before .before .before .before .before .before .before .before .before .before .before .before .before .before .before .before .before .before .before .before .before .args) in
-    let h = (c .before .before .before .read-head) in
-    after-head _ (buffersFrom (a .raw .now) (a .work .now) (a .output .now) (a .lfe .now)) (a .t1) _ (c .before .before .before .before .before .before .before .before .before .lent-fits .ensures) (c .before .before .before .before .before .before .before .before .if1 .left) _ (c .before .before .before .before .before .values-fit .ensures) (c .before .before .before .before .if2 .left) (h .result) (h .ensures .0) (c .before .answer .given .0 .0) (c .before .answer .given .1)
+returns-3 c =
+    let a = c .before .before .before .before .before .before .before .before .before .before .before .before .before .before .before .before .before .before .before .before .before .before .args in
+    let lent = c .before .before .before .before .before .before .before .before .before .lent-fits .ensures in
+    let fits = c .before .before .before .before .before .before .before .before .if1 .left in
+    let values = c .before .before .before .before .before .values-fit .ensures in
+    let within = c .before .before .before .before .if2 .left in
+    let h = c .before .before .before .read-head in
+    let read = c .before .answer .given in
+    after-head _ (buffersFrom (a .raw .now) (a .work .now) (a .output .now) (a .lfe .now)) (a .t1) _ lent fits _ values within (h .result) (h .ensures .0) (read .0 .0) (read .1)
 
 same-length : tie.Need-same-length
 same-length c = search needs
@@ -49,9 +70,16 @@ same-length-4 : tie.Need-same-length-4
 same-length-4 c = search needs
 
 returns-4 : tie.Need-returns-4
-returns-4 c = let a = (c .before .before .before .before .before .before .before .before .before .before .before .before .before .before .before .before .before .before .before .before .before .before .before .before .before .before .before .before .before .before .before .before .before .before .before .before .before .args) in
-    let h = (c .before .before .before .before .before .before .before .before .before .before .before .before .before .before .before .before .before .before .read-head) in
-    after-payload _ (buffersFrom (a .raw .now) (a .work .now) (a .output .now) (a .lfe .now)) (a .t1) _ (c .before .before .before .before .before .before .before .before .before .before .before .before .before .before .before .before .before .before .before .before .before .before .before .before .lent-fits .ensures) (c .before .before .before .before .before .before .before .before .before .before .before .before .before .before .before .before .before .before .before .before .before .before .before .if1 .left) _ (c .before .before .before .before .before .before .before .before .before .before .before .before .before .before .before .before .before .before .before .before .values-fit .ensures) (c .before .before .before .before .before .before .before .before .before .before .before .before .before .before .before .before .before .before .before .if2 .left) (h .result) (h .ensures .0) (c .before .before .before .before .before .before .before .before .before .before .before .before .before .before .before .before .answer2 .given .0 .0) (c .before .before .before .before .before .before .before .before .before .before .before .before .before .before .before .before .answer2 .given .1) _ (c .before .before .before .before .before .before .before .before .unpacked-frame .ensures)
+returns-4 c =
+    let a = c .before .before .before .before .before .before .before .before .before .before .before .before .before .before .before .before .before .before .before .before .before .before .before .before .before .before .before .before .before .before .before .before .before .before .before .before .before .args in
+    let lent = c .before .before .before .before .before .before .before .before .before .before .before .before .before .before .before .before .before .before .before .before .before .before .before .before .lent-fits .ensures in
+    let fits = c .before .before .before .before .before .before .before .before .before .before .before .before .before .before .before .before .before .before .before .before .before .before .before .if1 .left in
+    let values = c .before .before .before .before .before .before .before .before .before .before .before .before .before .before .before .before .before .before .before .before .values-fit .ensures in
+    let within = c .before .before .before .before .before .before .before .before .before .before .before .before .before .before .before .before .before .before .before .if2 .left in
+    let h = c .before .before .before .before .before .before .before .before .before .before .before .before .before .before .before .before .before .before .read-head in
+    let read = c .before .before .before .before .before .before .before .before .before .before .before .before .before .before .before .before .answer2 .given in
+    after-payload _ (buffersFrom (a .raw .now) (a .work .now) (a .output .now) (a .lfe .now)) (a .t1) _ lent fits _ values within (h .result) (h .ensures .0) (read .0 .0) (read .1) _ (c .before .before .before .before .before .before .before .before .unpacked-frame .ensures)
 
 pub frame-spec : {M : Type 1} → statement M
-frame-spec = tie.close (tie.spec lent-fits-requires returns values-fit-requires returns-2 read-head-requires enum-known-answer enum-known-answer-2 unpacked-frame-requires returns-3 same-length same-length-2 same-length-3 same-length-4 returns-4)
+frame-spec =
+    tie.close (tie.spec lent-fits-requires returns values-fit-requires returns-2 read-head-requires enum-known-answer enum-known-answer-2 unpacked-frame-requires returns-3 same-length same-length-2 same-length-3 same-length-4 returns-4)
