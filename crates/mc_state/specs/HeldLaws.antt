@@ -16,6 +16,8 @@ use Rattle.mc_config.specs.CaseLaws.{cond-all}
 use Rattle.mc_config.specs.Config.{hasCentre, surroundOf, configOf, frontChannels, surroundChannels, layoutOf}
 use Rattle.mc_config.specs.declared.McHeader.{McHeader}
 use Rattle.mc_config.specs.ConfigLaws.{front-length, surround-length}
+use Rattle.mc_fields.specs.HeadYields.{HeaderFits}
+use Rattle.mc_fields.specs.Lent.{baseFits}
 use Rattle.mc_payload.specs.declared.McSettings.{McSettings}
 use Rattle.mc_payload.specs.Places.{config}
 use Rattle.mc_payload.specs.Demand3.Accepted.{both-true, second-true}
@@ -72,15 +74,17 @@ record InParts (n : ℕ) : Type 0 where
 in-parts : (n : ℕ) → isLayout n ≡ true → InParts n
 in-parts n e =
     let a = both-true (leb 10 n) _ e in
-    let b = both-true (leb n 33) (leb (n % 10) 3) (a .1) in
+    let b = both-true (leb n 33) _ (a .1) in
     let low : 10 ≤ n = leb-true 10 n (a .0) in
     let high : n ≤ 33 = leb-true n 33 (b .0) in
     record { frontLow = omega arith; frontHigh = omega arith; surroundHigh = leb-true (n % 10) 3 (b .1); whole = omega arith }
 
--- each is that of a header
+-- each is that of a header, its fields within their widths, over one or two base channels
 pub record Given (n : ℕ) : Type 0 where
   pub header : McHeader
+  pub fits : HeaderFits header
   pub baseChannels : ℕ
+  pub base : baseFits baseChannels ≡ true
   pub number : layoutBy header baseChannels ≡ n
 
 unfoldable headerOf : ℕ → ℕ → McHeader
@@ -100,16 +104,21 @@ headerOf centre surround =
       «copyright_identification_start» = false;
     }
 
-given-by : (front surround : ℕ) → 1 ≤ front → front ≤ 3 → Given (10 * front + surround)
-unfolding configOf headerOf
-given-by zero surround a b = absurd (omega arith)
-given-by (suc zero) surround a b = record { header = headerOf 0 surround; baseChannels = 1; number = refl }
-given-by (suc (suc zero)) surround a b = record { header = headerOf 0 surround; baseChannels = 2; number = refl }
-given-by (suc (suc (suc zero))) surround a b = record { header = headerOf 1 surround; baseChannels = 2; number = refl }
-given-by (suc (suc (suc (suc front)))) surround a b = absurd (omega arith)
+module _ (surround : ℕ) (h : surround ≤ 3) where
+  header-fits : (centre : ℕ) → centre ≤ 3 → HeaderFits (headerOf centre surround)
+  unfolding headerOf
+  header-fits centre c = record { ad-bytes = omega arith; centre = c; surround = h; procedure = omega arith; lingual = omega arith }
+
+  given-by : (front : ℕ) → 1 ≤ front → front ≤ 3 → Given (10 * front + surround)
+  unfolding configOf headerOf
+  given-by zero a b = absurd (omega arith)
+  given-by (suc zero) a b = record { header = headerOf 0 surround; fits = header-fits 0 (omega arith); baseChannels = 1; base = refl; number = refl }
+  given-by (suc (suc zero)) a b = record { header = headerOf 0 surround; fits = header-fits 0 (omega arith); baseChannels = 2; base = refl; number = refl }
+  given-by (suc (suc (suc zero))) a b = record { header = headerOf 1 surround; fits = header-fits 1 (omega arith); baseChannels = 2; base = refl; number = refl }
+  given-by (suc (suc (suc (suc front)))) a b = absurd (omega arith)
 
 pub layout-given : (n : ℕ) → isLayout n ≡ true → Given n
-layout-given n e = let p = in-parts n e in rw (p .whole) at (given-by (n / 10) (n % 10) (p .frontLow) (p .frontHigh))
+layout-given n e = let p = in-parts n e in rw (p .whole) at (given-by (n % 10) (p .surroundHigh) (n / 10) (p .frontLow) (p .frontHigh))
 
 -- no two have the same channels
 
