@@ -34,7 +34,11 @@ static void read_frame(const char *name, const uint8_t *head, size_t length, siz
 
 static void carry(void)
 {
-    printf("carrying: %" PRIu32, mc_carry_state(&state));
+    uint32_t refusal = mc_carry_state(&state);
+    if (refusal != MC_ACCEPTED)
+        printf("carrying: refusal %" PRIu32, refusal);
+    else
+        printf("carrying: carried");
     printf("; %u channels, layout %u, %" PRIu32 " frames\n", state.layout_len, state.layout, state.accepted);
 }
 

@@ -6,12 +6,10 @@ use Prim.Native.Nat.{ℕ, _+_, _*_, _≤_}
 use native.Mathlib.Omega.{arith}
 use borrow.Author.Tests.{eq-eqb, ne-eqb, not-true, not-false}
 use lib.Ieee.{Float}
+use lib.ListN.{length}
 use mir.Val.{Fits}
 use mir.Syntax.{w8}
-use Rattle.mc_config.specs.Config.{configOf}
-use Rattle.mc_config.specs.Records.{layoutRecord}
-use Rattle.mc_config.specs.declared.layout.Layout.{Layout}
-use Rattle.mc_config.specs.ConfigLaws.{layout-length}
+use Rattle.mc_config.specs.Config.{configOf, layoutOf}
 use Rattle.mc_config.specs.declared.McConfig.{McConfig}
 use Rattle.bits.specs.Syntax.{plain, accepted, refused, run}
 use Rattle.bits.specs.Yields.{accepted-yields}
@@ -33,7 +31,7 @@ use Rattle.mc_history.specs.History.{historyAt, historyOf}
 use Rattle.mc_finish.specs.Finish.{BaseFits}
 use Rattle.mc_state.specs.declared.McAnswer.the-variants.{Accepted, Refused}
 use Rattle.mc_state.specs.declared.McDecodeState.{McDecodeState}
-use Rattle.mc_state.specs.Held.{layoutFor, followsBy, follows, layoutAfter}
+use Rattle.mc_state.specs.Held.{channelsBy, layoutFor, followsBy, follows, layoutAfter}
 use Rattle.mc_state.specs.HeldLaws.{layout-small}
 use Rattle.mc_state.specs.Frame.{Buffers, verdictUnpacked, answerOf, written, buffersOf, oneMore, stateOf, afterUnpacked}
 use Rattle.mc_state.specs.Answer.{buffersFrom, afterOf}
@@ -70,12 +68,10 @@ history-same s base h e = e
 
 -- ---- the frame's layout
 
-pub count-fits : (k : McConfig) (l : Layout) → l ≡ layoutRecord k → Fits w8 (l .count)
-count-fits k l e = rw e (record { fits = omega (arith, layout-length k) })
-
 module _ (s : McSettings) (k : McConfig) (e : k ≡ configOf (s .header) (s .«base_channels»)) where
-  pub count-is : (l : Layout) → l ≡ layoutRecord k → l .count ≡ channels s
-  count-is l el = rw (el, e)
+  pub count-is : (n : ℕ) → n ≡ length (channelsBy (k .front) (s .header .surround)) → n ≡ channels s
+  unfolding configOf layoutOf
+  count-is n en = rw (en, e)
 
   module _ (h : s .header .surround ≤ 3) where
     number-small : 10 * k .front + s .header .surround ≤ 33

@@ -20,6 +20,7 @@ use mc_payload::McSettings;
 use mc_state::Framed;
 use mc_state::McAnswer;
 use mc_state::McDecodeState;
+use mc_state::channel_count;
 use mc_state::layout_after;
 use mc_state::layout_follows;
 use mc_state::one_more;
@@ -38,7 +39,7 @@ fn frame_layout(s: McSettings) -> FrameLayout
 {
     let config = McConfig::from_header(s.header, s.base_channels);
     FrameLayout {
-        count: config.layout().count as u8,
+        count: channel_count(config.front, s.header.surround),
         number: 10 * config.front + s.header.surround,
     }
 }

@@ -17,9 +17,12 @@ use Rattle.mc_output.specs.Output.{channels}
 abbrev pub isLayout : ℕ → Bool
 isLayout n = leb 10 n && (leb n 33 && leb (n % 10) 3)
 
--- the output channels in order
+-- the output channels in order, by front and surround code
+abbrev pub channelsBy : ℕ → ℕ → List ℕ
+channelsBy front surround = frontChannels front ++ surroundChannels (surroundOf surround) (eqb surround 3)
+
 abbrev pub layoutAt : ℕ → List ℕ
-layoutAt n = frontChannels (n / 10) ++ surroundChannels (surroundOf (n % 10)) (eqb (n % 10) 3)
+layoutAt n = channelsBy (n / 10) (n % 10)
 
 -- of a header over one or two base channels
 abbrev pub layoutBy : McHeader → ℕ → ℕ

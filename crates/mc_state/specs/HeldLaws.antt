@@ -22,7 +22,7 @@ use Rattle.mc_payload.specs.declared.McSettings.{McSettings}
 use Rattle.mc_payload.specs.Places.{config}
 use Rattle.mc_payload.specs.Demand3.Accepted.{both-true, second-true}
 use Rattle.mc_output.specs.Output.{channels}
-use Rattle.mc_state.specs.Held.{isLayout, layoutAt, layoutBy, layoutFor, heldFits, sameLayout, followsBy, follows, layoutAfter}
+use Rattle.mc_state.specs.Held.{channelsBy, isLayout, layoutAt, layoutBy, layoutFor, heldFits, sameLayout, followsBy, follows, layoutAfter}
 
 -- ---- the number of a frame's layout
 
@@ -230,14 +230,16 @@ module _ (count layout : ℕ) where
   pub fits-lone : layout ≡ 0 → leb count 5 ≡ heldFits count layout
   fits-lone z = rw (eq-eqb layout 0 z) (sym (and-true (leb count 5)))
 
-  pub fits-layout : (layout ≡ 0 → ⊥) → (front more : ℕ) → front ≡ length (frontChannels (layout / 10))
-      → more ≡ length (surroundChannels (surroundOf (layout % 10)) (eqb (layout % 10) 3)) → (b : Bool) → b ≡ isLayout layout
-      → (leb count 5 && (b && eqb count (front + more))) ≡ heldFits count layout
-  fits-layout z front more ef em b eb =
-      rw (eb, ne-eqb layout 0 z, ef, em, length-append (frontChannels (layout / 10)) (surroundChannels (surroundOf (layout % 10)) (eqb (layout % 10) 3)))
+  pub fits-layout : (layout ≡ 0 → ⊥) → (n : ℕ) → n ≡ length (layoutAt layout) → (b : Bool) → b ≡ isLayout layout
+      → (leb count 5 && (b && eqb count n)) ≡ heldFits count layout
+  fits-layout z n en b eb = rw (eb, ne-eqb layout 0 z, en)
 
-pub counts-fit : (front more a b : ℕ) → a ≡ length (frontChannels front) → b ≡ length (surroundChannels (surroundOf more) (eqb more 3)) → Fits w8 (a + b)
-counts-fit front more a b ea eb = record { fits = omega (arith, ea, eb, front-length front, surround-length (surroundOf more) (eqb more 3)) }
+module _ (front surround a b : ℕ) (ea : a ≡ length (frontChannels front)) (eb : b ≡ length (surroundChannels (surroundOf surround) (eqb surround 3))) where
+  pub counts-fit : Fits w8 (a + b)
+  counts-fit = record { fits = omega (arith, ea, eb, front-length front, surround-length (surroundOf surround) (eqb surround 3)) }
+
+  pub counts-add : a + b ≡ length (channelsBy front surround)
+  counts-add = rw (ea, eb) (sym (length-append (frontChannels front) (surroundChannels (surroundOf surround) (eqb surround 3))))
 
 module _ (reading count layout n own : ℕ) where
   pub follows-none : count ≡ 0 → true ≡ followsBy reading count layout n own

@@ -3,7 +3,7 @@ ghost use mathlib.Core.Path.{_≡_};
 ghost use lib.ListN.{length};
 ghost use lib.Dec.{eqb};
 ghost use Rattle.mc_config.specs.Config.{surroundOf, frontChannels, surroundChannels};
-ghost use Rattle.mc_state.specs.Held.{isLayout, heldFits, followsBy, layoutAfter};
+ghost use Rattle.mc_state.specs.Held.{channelsBy, isLayout, heldFits, followsBy, layoutAfter};
 
 // Front channels of a layout.
 fn front_count(front: u8) -> u8
@@ -28,6 +28,13 @@ fn surround_count(surround: u8) -> u8
     }
 }
 
+// Output channels of a layout, by its front and surround code.
+pub fn channel_count(front: u8, surround: u8) -> u8
+    ensures { λ r. ⌜ r ≡ length (channelsBy front surround) ⌝ }
+{
+    front_count(front) + surround_count(surround)
+}
+
 // A layout that some header gives, by number.
 fn is_layout(layout: u8) -> bool
     ensures { λ r. ⌜ r ≡ isLayout layout ⌝ }
@@ -42,9 +49,8 @@ pub fn held_fits(count: u8, layout: u8) -> bool
     if layout == 0 {
         return count <= 5;
     }
-    let front = front_count(layout / 10);
-    let more = surround_count(layout % 10);
-    (count <= 5) & (is_layout(layout) & (count == front + more))
+    let own = channel_count(layout / 10, layout % 10);
+    (count <= 5) & (is_layout(layout) & (count == own))
 }
 
 // Whether a frame of n channels and the layout `own` may follow.

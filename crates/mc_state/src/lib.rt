@@ -6,6 +6,7 @@ mod carry;
 mod held;
 mod state;
 
+pub use held::channel_count;
 pub use held::held_fits;
 pub use held::layout_after;
 pub use held::layout_follows;
