@@ -115,9 +115,9 @@ pub fn carried(state: McDecodeState) -> Refreshed
 {
     let t = state.carry();
     let answer = t.answer;
-    let next = t.state;
+    let after = t.state;
     Refreshed {
         answer: number_of(answer),
-        state: next,
+        state: after,
     }
 }
