@@ -20,7 +20,7 @@ use types.Run.{look, look-raw, init, store-raw, forget, stop, hop, fld, from, lo
 use types.Part.{whole, sub, look-in}
 use types.SemTy.{Body}
 use sound.WpLaws.{FmC, fmOf, WpFn-mono}
-use denote.RattleType.{RattleType, owns}
+use denote.RattleType.{owns}
 use denote.Memory.{mem}
 use denote.Laws.{Is, shows}
 use denote.Ref.{RefT, MutRef, ptr-vals, mut-tells}
@@ -75,26 +75,11 @@ abbrev Callee : {M : Type 1} (𝓤 : URA M) (H : Heap 𝓤) (A : Atoms 𝓤) (me
 Callee 𝓤 H A mem run = tripleOf 𝓤 H A callee.signature (callee.spec 𝓤 H A mem run)
 
 module _ {M : Type 1} (𝓤 : URA M) (H : Heap 𝓤) (A : Atoms 𝓤) (W : Given 𝓤 H A) (at-mem : Memory → SProp 𝓤) (run : Routine → Fun 𝓤) (κ₀ : Lft) (q₀ : Share) (b o : ℕ) (γ : GName) (d : McDecodeState) where
-  abbrev mach : Val
-  mach = low d
+  abbrev a : RefT McDecodeState × Unit {0}
+  a = (record { ptr = (b, o); name = γ; now = d }, tt)
 
-  abbrev Rest : Type 0
-  Rest = Unit {0}
-
-  abbrev rest : Rest
-  rest = tt
-
-  abbrev RestV : Type 0
-  RestV = Unit {0}
-
-  abbrev restV : RestV
-  restV = tt
-
-  abbrev a : RefT McDecodeState × Rest
-  a = (record { ptr = (b, o); name = γ; now = d }, rest)
-
-  abbrev vals : List Val × RestV
-  vals = (vptr b o ∷ [], restV)
+  abbrev vals : List Val × Unit {0}
+  vals = (vptr b o ∷ [], tt)
 
   abbrev Post : Val → SProp 𝓤
   Post = walkOf 𝓤 H A thin.ended stayed (thin.clauses 𝓤 H A at-mem run) .post (((κ₀, tt), (q₀, tt), tt, a, vals), tt)
@@ -105,14 +90,11 @@ module _ {M : Type 1} (𝓤 : URA M) (H : Heap 𝓤) (A : Atoms 𝓤) (W : Given
 
   -- what the callee's triple binds outside
   abbrev to : Callee 𝓤 H A at-mem run .Ghost
-  to = ((tt, tt, tt, (d, rest), (mach ∷ [], restV)), tt)
+  to = ((tt, tt, tt, (d, tt), (low d ∷ [], tt)), tt)
 
-  abbrev Others : List RattleType
-  Others = []
-
-  goes : ent 𝓤 (sep 𝓤 (sem 𝓤 H A ftrue) (sep 𝓤 (sem 𝓤 H A (owns Others rest restV)) (sem 𝓤 H A (T.the-row .own d (mach ∷ []))))) (Callee 𝓤 H A at-mem run .pre to)
+  goes : ent 𝓤 (sep 𝓤 (sem 𝓤 H A ftrue) (sep 𝓤 (sem 𝓤 H A (owns [] tt tt)) (sem 𝓤 H A (T.the-row .own d (low d ∷ []))))) (Callee 𝓤 H A at-mem run .pre to)
   goes =
-      qed W ((‵ ftrue) ∷ ‵ (owns Others rest restV) ∷ ‵ (T.the-row .own d (mach ∷ [])) ∷ []) ∵
+      qed W ((‵ ftrue) ∷ ‵ (owns [] tt tt) ∷ ‵ (T.the-row .own d (low d ∷ [])) ∷ []) ∵
       move ! (2 ∷ 1 ∷ []) $ fjoin ! $ move ! (1 ∷ 0 ∷ []) $ join ! $ frame ! $ done !
 
   exits : (r : CarriedState) → Is E.the-row (r .answer) (ans r ∷ []) → Said r
@@ -134,21 +116,21 @@ module _ {M : Type 1} (𝓤 : URA M) (H : Heap 𝓤) (A : Atoms 𝓤) (W : Given
   module _ (C : Calls 𝓤 H) (Λ : Loops 𝓤 H) (fm : FmC 𝓤 H (W .laws) C) (known : Triple 𝓤 (C #callee) (Callee 𝓤 H A at-mem run)) where
     walk : ent 𝓤 (onEntry 𝓤 H A thin.signature (κ₀, tt) (q₀, tt) a vals) (WpFn 𝓤 H C Λ code.function (vptr b o ∷ []) Post)
     walk =
-        qed W ((‵ (flft κ₀ q₀) ⊛ ‵ ftrue) ∷ ‵ (owns (MutRef (named 0) κ₀ T.the-row ∷ Others) a vals) ∷ []) ∵ enter ! C Λ code.function (vptr b o ∷ []) _ $
+        qed W ((‵ (flft κ₀ q₀) ⊛ ‵ ftrue) ∷ ‵ (owns (MutRef (named 0) κ₀ T.the-row ∷ []) a vals) ∷ []) ∵ enter ! C Λ code.function (vptr b o ∷ []) _ $
         alloc1 ! (λ c₀. alloc1 ! (λ c₁. alloc1 ! (λ c₂. alloc1 ! (λ c₃. alloc0 ! $ params1 ! $
         pass1 ! (init ! 4 refl (tt, tt)) $
         pass0 ! $
         -- the borrow of the state is opened
         move ! (9 ∷ []) $ fsplit ! $ fsplit3 ! $ drop ! $ move ! (11 ∷ []) $ split ! $ move ! (2 ∷ 3 ∷ 0 ∷ []) $
         opens ! tt T.the-row {h = d} b o (λ vs. spelt ! T.the-row (Is T.the-row) (shows 𝓤 H A T.the-row) (LL.vals T.the-type T′.the-laws) (LL.tells T.the-type T′.the-laws) fullShare d vs b o $
-        move ! (1 ∷ []) $ peeks ! T.the-row (Is T.the-row) (shows 𝓤 H A T.the-row) d (mach ∷ []) (λ was. move ! (1 ∷ 0 ∷ []) $
+        move ! (1 ∷ []) $ peeks ! T.the-row (Is T.the-row) (shows 𝓤 H A T.the-row) d (low d ∷ []) (λ was. move ! (1 ∷ 0 ∷ []) $
         -- [the state's cell; what it owns; the open borrow; obs; auth; the other tokens; what the others own; the locals, the last first]
         assigns ! (of-opd ! (load ! (from ! (hop ! (look ! 11 refl) (stop !))) (look-raw ! 0 refl))) (from ! (stop !)) (init ! 7 refl (LL.lawful T.the-type T′.the-laws 𝓤 H A W .typed d _ was .0)) $
         move ! (5 ∷ 6 ∷ 1 ∷ []) $ use3 W (raw (Callee 𝓤 H A at-mem run .pre to)) goes $
         -- [the callee's pre; the cell; the open borrow; obs; auth; the locals]
         calls-at ! fm (Callee 𝓤 H A at-mem run) known to (and-then ! (load ! (from ! (stop !)) (look ! 5 refl)) (no-more !)) (λ w.
-        use1 W (later (some (λ (r : CarriedState). ((‵ ftrue) ⊛ ‵ (S.the-row .own r (w ∷ []))) ⊛ raw (ensured 𝓤 H A callee.ended (callee.clauses 𝓤 H A at-mem run) tt (d, rest) tt r)))) (id⊢ 𝓤 _) $ await ! tt $ pick ! (λ r.
-        split ! $ move ! (1 ∷ []) $ use1 W (some (λ (zs : (Unit {0} × Unit {0})). ‵ (lasts callee.ended tt (d, rest) zs) ⊛ raw (fact 𝓤 (Said r)))) (id⊢ 𝓤 _) $ pick ! (λ zs.
+        use1 W (later (some (λ (r : CarriedState). ((‵ ftrue) ⊛ ‵ (S.the-row .own r (w ∷ []))) ⊛ raw (ensured 𝓤 H A callee.ended (callee.clauses 𝓤 H A at-mem run) tt (d, tt) tt r)))) (id⊢ 𝓤 _) $ await ! tt $ pick ! (λ r.
+        split ! $ move ! (1 ∷ []) $ use1 W (some (λ (zs : (Unit {0} × Unit {0})). ‵ (lasts callee.ended tt (d, tt) zs) ⊛ raw (fact 𝓤 (Said r)))) (id⊢ 𝓤 _) $ pick ! (λ zs.
         split ! $ move ! (1 ∷ []) $ heard ! (Said r) (λ e. fsplit ! $ drop ! $
         -- [true; the last lists, the last first; the tokens and the result; the cell; the open borrow; obs; auth; the locals]
         move ! (1 ∷ []) $ split ! $ move ! (1 ∷ []) $ peeks ! S.the-row (Is S.the-row) (shows 𝓤 H A S.the-row) r (w ∷ []) (λ is.
@@ -168,8 +150,7 @@ module _ {M : Type 1} (𝓤 : URA M) (H : Heap 𝓤) (A : Atoms 𝓤) (W : Given
   walks C Λ fm known = walked 𝓤 H A thin.ended stayed (thin.clauses 𝓤 H A mem run) (WpFn 𝓤 H C Λ code.function) (λ κs. (ptr-vals, tt))
       (λ κs. (mut-tells (named 0) (κs .0) T.the-row, tt))
       (λ κs qs bounds a g are. via 𝓤 _ (fst∗ 𝓤 _ (emp 𝓤))
-      (walk 𝓤 H A W mem run (κs .0) (qs .0) (a .0 .ptr .0) (a .0 .ptr .1) (a .0 .name) (a .0 .now) C Λ fm known
-      ))
+      (walk 𝓤 H A W mem run (κs .0) (qs .0) (a .0 .ptr .0) (a .0 .ptr .1) (a .0 .name) (a .0 .now) C Λ fm known))
 
 meets : {M : Type 1} (𝓤 : URA M) (H : Heap 𝓤) (A : Atoms 𝓤) → Given 𝓤 H A → (mem : Memory → SProp 𝓤) (run : Routine → Fun 𝓤) (𝓣 : Tables 𝓤 H) → Triple 𝓤 (𝓣 .C #callee) (Callee 𝓤 H A mem run)
     → Meets 𝓤 H A thin.signature (WpFn 𝓤 H (𝓣 .C) (𝓣 .Λ) code.function) (thin.spec 𝓤 H A mem run)
