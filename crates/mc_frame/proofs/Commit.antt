@@ -63,6 +63,7 @@ function callee =
 abbrev StateS : Slot 1
 StateS = plain (λ _. T.the-row)
 
+-- its signature, and its callee's
 abbrev pub lent : Ended
 lent =
     record {
@@ -82,7 +83,7 @@ abbrev low : McDecodeState → Val
 low d = LL.val T.the-type T′.the-laws d
 
 module _ (said : McDecodeState → ℕ → McDecodeState → Type 0) {M : Type 1} (𝓤 : URA M) where
-  -- ---- the contracts of both
+  -- ---- its contract, and its callee's
 
   abbrev pub promised : Clauses 𝓤 lent
   promised κs a = record { ghost = Unit {0}; requires = λ g. emp 𝓤; ensures = λ g r z. fact 𝓤 (said (now (a .0)) r (now (z .0))) }
