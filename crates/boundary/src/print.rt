@@ -1,7 +1,7 @@
 // Writes lines.
 ghost use mathlib.Core.Path.{_≡_};
 ghost use Rattle.boundary_look.specs.Look.{sameValues};
-ghost use Rattle.boundary_run.specs.Run.{storedBy};
+ghost use Rattle.boundary_run.specs.Run.{sameCounts, storedBy};
 use boundary_look::is_stored;
 use boundary_look::same_values;
 use boundary_run::Found;
@@ -73,10 +73,11 @@ fn same_history(before: McDecodeState, after: McDecodeState) -> bool
 }
 
 // Whether the counts and the layout are the same.
-fn same_counts(before: McDecodeState, after: McDecodeState) -> bool {
+fn same_counts(before: McDecodeState, after: McDecodeState) -> bool
+    ensures { λ r. ⌜ r ≡ sameCounts before after ⌝ }
+{
     (before.layout_len == after.layout_len)
-        & (before.layout == after.layout)
-        & (before.accepted == after.accepted)
+        & ((before.layout == after.layout) & (before.accepted == after.accepted))
 }
 
 // What became of the state.

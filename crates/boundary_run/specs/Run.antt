@@ -42,6 +42,11 @@ unfoldable pub storedBy : Loan → List Float → Bool
 storedBy loan history =
     isStored history (rampOf (loan .left)) (cond (eqb (loan .«base_channels») 1) (rampOf (loan .left)) (rampOf (loan .right)))
 
+-- count, layout and counter are the same
+abbrev pub sameCounts : McDecodeState → McDecodeState → Bool
+sameCounts before after =
+    eqb (before .«layout_len») (after .«layout_len») && (eqb (before .layout) (after .layout) && eqb (before .accepted) (after .accepted))
+
 -- answer, state and output are the call's; `kept` says whether its buffers are the ones before it
 pub record FoundIs (a : After) (r : Found) : Type 0 where
   pub answer : outcomeOf (r .answer) ≡ a .answer
