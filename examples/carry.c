@@ -19,8 +19,8 @@ static const uint8_t three_one[9] = { 0x28 }, two_two[8] = { 0x10 };
 
 static void read_frame(const char *name, const uint8_t *head, size_t length, size_t bits, uint32_t reading)
 {
-    uint64_t answer = mc_decode_frame_layout(&state, head, length, bits, payload, sizeof payload, 0,
-        reading, 48000, 2, values[0], MC_BASE_VALUES, values[1], MC_BASE_VALUES,
+    uint64_t answer = mc_decode_frame_desks(&state, head, length, bits, payload, sizeof payload, 0,
+        reading, 0, 48000, 2, values[0], MC_BASE_VALUES, values[1], MC_BASE_VALUES,
         values[0], MC_BASE_VALUES, values[1], MC_BASE_VALUES,
         base_steps, 2 * MC_BASE_STEPS, 0, steps, MC_STEPS,
         raw, MC_RAW, work, MC_RAW, output, MC_OUTPUT, lfe, MC_LFE);
@@ -29,22 +29,24 @@ static void read_frame(const char *name, const uint8_t *head, size_t length, siz
         printf("refusal %u", mc_refusal(answer));
     else
         printf("accepted");
-    printf("; %u channels, layout %u, %" PRIu32 " frames\n", state.layout_len, state.layout, state.accepted);
+    printf("; %u channels, layout %u, %" PRIu32 " frames\n", state.layout_len, state.layout,
+        state.accepted[0]);
 }
 
 static void carry(void)
 {
-    uint32_t refusal = mc_carry_state(&state);
+    uint32_t refusal = mc_carry_state_desks(&state);
     if (refusal != MC_ACCEPTED)
         printf("carrying: refusal %" PRIu32, refusal);
     else
         printf("carrying: carried");
-    printf("; %u channels, layout %u, %" PRIu32 " frames\n", state.layout_len, state.layout, state.accepted);
+    printf("; %u channels, layout %u, %" PRIu32 " frames\n", state.layout_len, state.layout,
+        state.accepted[0]);
 }
 
 int main(void)
 {
-    mc_fresh_state(&state);
+    mc_fresh_state_desks(&state);
     read_frame("3/1", three_one, sizeof three_one, 71, 1);
     read_frame("2/2", two_two, sizeof two_two, 59, 1);
     carry();

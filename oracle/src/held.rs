@@ -1,5 +1,7 @@
-//! What the comparisons count of what a state holds: how frames stand to it, and how it is carried.
+//! What the comparisons count of what a state holds: how frames stand to it, and how it is carried or
+//! converted.
 
+use crate::generator::state::Older;
 use crate::layouts;
 use crate::mc::McChannel;
 use crate::scope::{Refusal, State};
@@ -40,12 +42,35 @@ pub const CARRIED: [&str; 6] = [
 
 /// The place in [`CARRIED`] of a state, by the answer.
 pub fn carried(state: &State, answer: &Result<(), Refusal>) -> usize {
-    match answer {
-        Ok(()) if state.count == 0 => 0,
-        Ok(()) if state.layout == 0 => 1,
-        Ok(()) => 2,
-        Err(_) if state.count > 5 => 3,
-        Err(_) if layouts::channels(state.layout).is_none() => 4,
-        Err(_) => 5,
+    taken(state.count, state.layout, answer.is_ok())
+}
+
+fn taken(count: u32, layout: u32, accepted: bool) -> usize {
+    match accepted {
+        true if count == 0 => 0,
+        true if layout == 0 => 1,
+        true => 2,
+        false if count > 5 => 3,
+        false if layouts::channels(layout).is_none() => 4,
+        false => 5,
+    }
+}
+
+/// The same of an older state that is converted, with a reason more.
+pub const CONVERTED: [&str; 7] = [
+    CARRIED[0],
+    CARRIED[1],
+    CARRIED[2],
+    CARRIED[3],
+    CARRIED[4],
+    CARRIED[5],
+    "refused, a history of another length",
+];
+
+/// The place in [`CONVERTED`] of an older state, by the answer.
+pub fn converted(older: &Older, answer: &Result<State, Refusal>) -> usize {
+    match older.history.len() {
+        576 => taken(older.count, older.layout, answer.is_ok()),
+        _ => 6,
     }
 }

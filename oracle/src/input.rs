@@ -9,6 +9,9 @@ pub type Slots = Vec<[f64; NUM_SUBBANDS]>;
 /// The readings of the transfer guide. The published code has the first alone.
 pub const READINGS: [u32; 2] = [1, 2];
 
+/// The number of desks, which are counted from 0.
+pub const DESKS: usize = 8;
+
 /// Everything that is lent but the state. The shapes are the caller's care: each base channel has
 /// 36 slots, and there are as many channels as `base_channels` says, one or two.
 #[derive(Debug, Clone, PartialEq)]
@@ -21,6 +24,8 @@ pub struct FrameInput {
     pub payload_bits: u64,
     /// One of [`READINGS`]; the reference does not look at it.
     pub reading: u32,
+    /// Below [`DESKS`]; the reference does not look at it either.
+    pub desk: u32,
     pub sample_rate: u32,
     pub base_channels: usize,
     /// Requantised base values, by channel, slot and subband.
@@ -70,9 +75,10 @@ impl FrameInput {
         let bytes = self.head.iter().take(40);
         let head: String = bytes.map(|byte| format!("{byte:02x}")).collect();
         format!(
-            "reading {}, base channels {}, rate {}, LFE allocation {}\n\
+            "reading {}, desk {}, base channels {}, rate {}, LFE allocation {}\n\
              head of {} bytes and {} bits: {head}\npayload of {} bytes and {} bits",
             self.reading,
+            self.desk,
             self.base_channels,
             self.sample_rate,
             self.lfe_allocation,

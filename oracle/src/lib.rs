@@ -8,6 +8,7 @@ extern crate self as oxideav_core;
 include!(concat!(env!("OUT_DIR"), "/published.rs"));
 
 pub mod bits;
+pub mod desks;
 pub mod flat;
 pub mod generator;
 pub mod held;

@@ -14,6 +14,7 @@ pub fn frame<'a>(input: &'a FrameInput, flat: &'a Flat) -> Frame<'a> {
         payload: &input.payload,
         payload_bits: input.payload_bits as usize,
         reading: input.reading,
+        desk: input.desk,
         rate: input.sample_rate,
         base_channels: input.base_channels as u8,
         raw_left,
@@ -29,7 +30,8 @@ pub fn frame<'a>(input: &'a FrameInput, flat: &'a Flat) -> Frame<'a> {
 /// The state as the library holds it.
 pub fn held(state: &State) -> McState {
     let history = state.history[..].try_into().expect("576 values");
-    McState::with(history, state.count as u8, state.layout as u8, state.frames)
+    let (count, layout) = (state.count as u8, state.layout as u8);
+    McState::with(history, count, layout, state.accepted)
 }
 
 /// The state that the library holds.
@@ -38,6 +40,6 @@ pub fn state(held: &McState) -> State {
         history: held.history().to_vec(),
         count: held.layout_len().into(),
         layout: held.layout().into(),
-        frames: held.accepted(),
+        accepted: *held.accepted(),
     }
 }

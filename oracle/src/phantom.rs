@@ -49,6 +49,6 @@ fn accepted_under_2(input: &FrameInput, state: &State) -> bool {
 
 /// Whether the reference was asked about another head than the one that was lent.
 pub fn on_amended_head(input: &FrameInput, answer: &Result<FrameOutput, Refusal>) -> bool {
-    let asked = !matches!(answer, Err(refusal) if matches!(refusal.number, 6 | 7));
+    let asked = !matches!(answer, Err(refusal) if matches!(refusal.number, 6 | 7 | 14));
     asked && amended(input)
 }

@@ -1,13 +1,13 @@
-//! Document 01's side of a frame, with document 02's readings: flat buffers, the state with its layout
-//! and its counter, carrying, and the four refusals that the published code does not have. Those (6, 7,
-//! 8 and 13), and refusal 5 of a layout that changes without its number of channels, are written here
-//! by hand; every other refusal and every value is the reference's, under either reading. Where reading
-//! 2 lifts the phantom limit, the reference is asked about the frame with another centre code, and
-//! refusal 8 goes by the places of that frame.
+//! Document 01's side of a frame, with document 02's readings and desks: flat buffers, the state with
+//! its layout and its tallies, carrying, conversion, and the five refusals that the published code does
+//! not have. Those (6, 7, 8, 13 and 14), and refusal 5 of a layout that changes without its number of
+//! channels, are written here by hand; every other refusal and every value is the reference's, under
+//! either reading and for every desk. Where reading 2 lifts the phantom limit, the reference is asked
+//! about the frame with another centre code, and refusal 8 goes by the places of that frame.
 
 use crate::bitalloc::class_of_quantization;
 use crate::generator::writer::put;
-use crate::input::{FrameInput, READINGS, Slots};
+use crate::input::{DESKS, FrameInput, READINGS, Slots};
 use crate::mc::{McChannel, McDecodeState, McError};
 use crate::output::{CentreField, FrameOutput, HeadOutput};
 use crate::{layouts, reference_centre, reference_frame, reference_head, reference_places};
@@ -57,8 +57,8 @@ pub struct State {
     pub count: u32,
     /// The layout itself by its number in [`layouts`], 0 where it is not known.
     pub layout: u32,
-    /// Accepted frames.
-    pub frames: u32,
+    /// Accepted frames of each desk.
+    pub accepted: [u32; DESKS],
 }
 
 impl State {
@@ -67,8 +67,24 @@ impl State {
             history: vec![0.0; 576],
             count: 0,
             layout: 0,
-            frames: 0,
+            accepted: [0; DESKS],
         }
+    }
+
+    /// Conversion of a state of before there were desks: desk 0 has its tally and the others none, and
+    /// all else is kept. A history of another length than 576 is refusal 6, and so is a wrong count or
+    /// layout, as in carrying.
+    pub fn convert(history: &[f64], count: u32, layout: u32, tally: u32) -> Result<State, Refusal> {
+        let mut accepted = [0; DESKS];
+        accepted[0] = tally;
+        let state = State {
+            history: history.to_vec(),
+            count,
+            layout,
+            accepted,
+        };
+        let fits = history.len() == 576 && state.rightly_held();
+        fits.then_some(state).ok_or(Refusal::plain(6))
     }
 
     /// Carrying: of a layout the count alone stays, and all else as it was. A wrong count or layout is
@@ -98,16 +114,17 @@ impl State {
 
     /// Follows a frame of these channels that the reference accepts after the state's count. Under
     /// reading 2 a known layout has to be the frame's, which is refusal 5 otherwise, and the frame's is
-    /// stored.
-    fn follow(&mut self, reading: u32, channels: &[McChannel]) -> Result<(), Refusal> {
-        if reading == 2 {
+    /// stored. It counts for its desk alone, whose tally stays at its top.
+    fn follow(&mut self, input: &FrameInput, channels: &[McChannel]) -> Result<(), Refusal> {
+        if input.reading == 2 {
             if layouts::channels(self.layout).is_some_and(|held| held != channels) {
                 return Err(Refusal::plain(5));
             }
             self.layout = layouts::number(channels);
         }
         self.count = channels.len() as u32;
-        self.frames = self.frames.saturating_add(1);
+        let tally = &mut self.accepted[input.desk as usize];
+        *tally = tally.saturating_add(1);
         Ok(())
     }
 }
@@ -150,6 +167,9 @@ pub fn judge(input: &FrameInput, state: &mut State) -> Result<FrameOutput, Refus
     if !rightly_lent(input, state) {
         return Err(Refusal::plain(6));
     }
+    if !is_desk(input.desk) {
+        return Err(Refusal::plain(14));
+    }
     if !values_in_range(input, state) {
         return Err(Refusal::plain(7));
     }
@@ -166,7 +186,7 @@ pub fn judge(input: &FrameInput, state: &mut State) -> Result<FrameOutput, Refus
     let answer = reference_frame(&asked, &mut decoder);
     state.history = decoder.history();
     let frame = FrameOutput { head, ..answer? };
-    state.follow(input.reading, &frame.span.layout)?;
+    state.follow(input, &frame.span.layout)?;
     Ok(frame)
 }
 
@@ -192,6 +212,11 @@ fn rightly_lent(input: &FrameInput, state: &State) -> bool {
         && state.rightly_held()
 }
 
+/// No reason for refusal 14.
+pub fn is_desk(desk: u32) -> bool {
+    (desk as usize) < DESKS
+}
+
 /// 0 or one of the 17 step counts.
 fn known(steps: u32) -> bool {
     steps == 0 || class_of_quantization(steps).is_some()
@@ -204,7 +229,7 @@ fn values_in_range(input: &FrameInput, state: &State) -> bool {
 }
 
 /// A value that refusal 7 lets pass.
-fn in_range(value: &f64) -> bool {
+pub fn in_range(value: &f64) -> bool {
     (-4.0..=4.0).contains(value)
 }
 
@@ -213,8 +238,8 @@ pub fn undefined_centre(reading: u32, head: &[u8], head_bits: u64) -> bool {
     reading == 2 && reference_centre(head, head_bits).is_ok_and(|centre| centre.code == 2)
 }
 
-/// Whether the reference is asked about another head than the one that is lent, of a frame that is
-/// refused with neither 6 nor 7.
+/// Whether the reference is asked about another head than the one that is lent, of a frame that is not
+/// refused with 6, 14 or 7.
 pub fn amended(input: &FrameInput) -> bool {
     unlimited_centre(input).is_some()
 }

@@ -113,7 +113,7 @@ fn layouts_of_equal_length_follow_each_other() {
         let input = Plan::plain(2, centre, surround).input();
         assert_eq!(judge(&input, &mut state).map(|_| ()), wanted);
     }
-    assert_eq!((state.count, state.layout, state.frames), (4, 0, 2));
+    assert_eq!((state.count, state.layout, state.accepted[0]), (4, 0, 2));
 }
 
 /// Mono base, phantom centre, second stereo; second left has 7 steps and the highest code in these

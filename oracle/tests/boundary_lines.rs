@@ -1,9 +1,10 @@
 //! The lines of the program `boundary`, written once more from the reference: each line of
 //! crates/boundary/stdout has to be what the published Rust answers to the same frame, or documents 01
-//! and 02 where the Rust has no such refusal, reading or carrying.
+//! and 02 where the Rust has no such refusal, reading, desk, carrying or conversion.
 
 mod lines;
 
+use lines::desks::{conversions, desks};
 use lines::{Lines, plan};
 use oracle::generator::Plan;
 use oracle::input::Slots;
@@ -263,6 +264,8 @@ fn each_line_is_what_the_published_rust_answers() {
     phantom_limits(&mut lines);
     carryings(&mut lines);
     wrong_states(&mut lines);
+    desks(&mut lines);
+    conversions(&mut lines);
     let expected = include_str!("../../crates/boundary/stdout");
     let expected: Vec<&str> = expected.lines().collect();
     assert_eq!(lines.0, expected);

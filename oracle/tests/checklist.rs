@@ -2,6 +2,7 @@
 
 use oracle::generator::Plan;
 use oracle::generator::damage::{Part, cut};
+use oracle::input::DESKS;
 use oracle::scope::{Buffers, Refusal, State, judge};
 use oracle::{FrameOutput, leaf};
 
@@ -194,10 +195,10 @@ fn layout_change_stores_the_history_alone() {
     let mut plan = Plan::plain(1, 0, 0);
     plan.base.scaled[0] = vec![[0.5; 32]; 36];
     let mut state = State::fresh();
-    (state.count, state.frames) = (5, 7);
+    (state.count, state.accepted) = (5, [7; DESKS]);
     let answer = judge(&plan.input(), &mut state);
     assert_eq!(answer, Err(Refusal::plain(5)));
-    assert_eq!((state.count, state.frames), (5, 7));
+    assert_eq!((state.count, state.accepted), (5, [7; DESKS]));
     assert_eq!(state.history, vec![0.5; 576]);
 }
 

@@ -4,6 +4,7 @@
 use oracle::bitalloc::BitAllocTable;
 use oracle::generator::Plan;
 use oracle::generator::damage::{Part, cut};
+use oracle::input::DESKS;
 use oracle::scope::{Refusal, State, judge};
 use oracle::{FrameOutput, McDecodeState, McError, leaf, reference_frame, reference_span};
 use std::panic::{AssertUnwindSafe, catch_unwind};
@@ -128,14 +129,14 @@ fn entry_16_step_count_that_the_tables_do_not_list() {
     }
 }
 
-/// The counter is document 01's; the published state has none.
+/// The tallies are documents 01's and 02's; the published state has none.
 #[test]
 fn entry_17_accepted_frames_stay_at_the_top() {
     let mut state = State::fresh();
-    state.frames = u32::MAX;
+    state.accepted = [u32::MAX; DESKS];
     let input = Plan::plain(2, 0, 0).input();
     assert!(judge(&input, &mut state).is_ok());
-    assert_eq!((state.count, state.frames), (2, u32::MAX));
+    assert_eq!((state.count, state.accepted), (2, [u32::MAX; DESKS]));
 }
 
 #[test]

@@ -4,6 +4,7 @@
 use oracle::audio_data::Scfsi;
 use oracle::generator::layout::grouped;
 use oracle::generator::plan::parts_shared;
+use oracle::generator::state::tallies;
 use oracle::generator::{Plan, Random, Source, base, damage};
 use oracle::input::READINGS;
 use oracle::scope::{Buffers, State, judge};
@@ -21,7 +22,7 @@ fn state_for(plan: &Plan, seed: u64) -> State {
         history,
         count,
         layout,
-        frames: random.pick(&[0, 7, u32::MAX]),
+        accepted: tallies(random),
     }
 }
 
@@ -189,7 +190,9 @@ fn state_agrees(plan: &Plan, before: &State, after: &State, seed: u64) {
         _ => before.layout,
     };
     assert_eq!(after.layout, layout, "seed {seed}");
-    assert_eq!(after.frames, before.frames.saturating_add(1));
+    let mut accepted = before.accepted;
+    accepted[0] = accepted[0].saturating_add(1);
+    assert_eq!(after.accepted, accepted, "seed {seed}");
     for (k, value) in after.history.iter().enumerate() {
         let (base, subband, k) = (k / 288, k / 9 % 32, k % 9);
         let base = base.min(plan.base_channels - 1);

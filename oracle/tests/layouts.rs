@@ -3,9 +3,10 @@
 
 use oracle::generator::damage::{self, Part};
 use oracle::generator::layout::Layout;
+use oracle::generator::state::tallies;
 use oracle::generator::{Plan, Random, base};
 use oracle::held::{CARRIED, HELD, carried, held};
-use oracle::input::READINGS;
+use oracle::input::{DESKS, READINGS};
 use oracle::mc::McChannel;
 use oracle::scope::{Refusal, State, judge};
 use oracle::trail::{CHANGES, Trail};
@@ -64,7 +65,7 @@ fn states() -> Vec<State> {
     held.map(|(count, layout)| State {
         count,
         layout,
-        frames: 7,
+        accepted: [7; DESKS],
         ..State::fresh()
     })
     .collect()
@@ -96,7 +97,7 @@ fn follows(plan: &Plan, state: &State) -> bool {
     }
 }
 
-/// The answer, and count, layout and counter after it. The history is stored in any case.
+/// The answer, and count, layout and tally after it. The history is stored in any case.
 #[test]
 fn frames_by_what_is_held() {
     let mut seen = [[0; 2]; HELD.len()];
@@ -109,7 +110,8 @@ fn frames_by_what_is_held() {
             true => (0, layout.outputs() as u32, state.layout, 8),
             false => (5, state.count, state.layout, 7),
         };
-        let found = (number(&answer), after.count, after.layout, after.frames);
+        let tally = after.accepted[0];
+        let found = (number(&answer), after.count, after.layout, tally);
         assert_eq!(found, wanted, "reading {}, {state:?}", plan.reading);
         assert_eq!(after.history, [0.5; 576]);
         let reading = plan.reading as usize - 1;
@@ -123,22 +125,22 @@ fn history_bits(state: &State) -> Vec<u64> {
     state.history.iter().map(|value| value.to_bits()).collect()
 }
 
-/// Any history, with every kind of NaN, and the counter stay in all bits; of a layout the count stays.
+/// Any history, with every kind of NaN, and all tallies stay in all bits; of a layout the count stays.
 #[test]
 fn carrying_keeps_all_but_the_layout() {
     let random = &mut Random::new(1);
     for before in states() {
         let mut before = State {
-            frames: random.below(u32::MAX),
+            accepted: tallies(random),
             ..before
         };
-        damage::wild_history(random, &mut before);
+        damage::wild_history(random, &mut before.history);
         let mut after = before.clone();
         let answer = after.carry();
         assert_eq!(answer, Ok(()));
         assert_eq!(history_bits(&after), history_bits(&before));
-        let wanted = (before.count, 0, before.frames);
-        assert_eq!((after.count, after.layout, after.frames), wanted);
+        let wanted = (before.count, 0, before.accepted);
+        assert_eq!((after.count, after.layout, after.accepted), wanted);
         let kind = match (before.count, before.layout) {
             (0, _) => "nothing held",
             (_, 0) => "a lone count",
@@ -161,7 +163,7 @@ fn wrong_states_are_not_carried() {
         let before = State {
             count,
             layout,
-            frames: 7,
+            accepted: [7; DESKS],
             ..State::fresh()
         };
         let mut after = before.clone();
@@ -205,7 +207,7 @@ fn after_reading_1(random: &mut Random) -> (State, usize) {
 }
 
 /// After a sequence under reading 1 and carrying, frames under reading 2 give what they give from that
-/// history and count alone, whatever the counter.
+/// history and count alone, whatever the tallies.
 #[test]
 fn one_change_in_a_sequence() {
     let (mut seen, mut known) = (BTreeSet::new(), 0);
@@ -215,7 +217,7 @@ fn one_change_in_a_sequence() {
         let mut other = State {
             history: state.history.clone(),
             count: state.count,
-            frames: random.pick(&[0, 1000, u32::MAX - 2]),
+            accepted: tallies(random),
             ..State::fresh()
         };
         known += u32::from(state.layout != 0);
@@ -223,14 +225,17 @@ fn one_change_in_a_sequence() {
         for _ in 0..6 {
             let mut input = frame(random, outputs);
             input.reading = 2;
-            let before = [state.frames, other.frames];
+            let before = [state.accepted, other.accepted];
             let answers = [&mut state, &mut other].map(|state| judge(&input, state));
             assert_eq!(answers[0], answers[1], "seed {seed}");
             let accepted = u32::from(answers[0].is_ok());
-            let counted = before.map(|frames| frames.saturating_add(accepted));
-            assert_eq!([state.frames, other.frames], counted);
+            let counted = before.map(|mut tallies| {
+                tallies[0] = tallies[0].saturating_add(accepted);
+                tallies
+            });
+            assert_eq!([state.accepted, other.accepted], counted);
             let mut recounted = state.clone();
-            recounted.frames = other.frames;
+            recounted.accepted = other.accepted;
             assert_eq!(recounted, other, "seed {seed}");
             seen.insert(number(&answers[0]));
         }

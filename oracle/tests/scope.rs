@@ -1,7 +1,7 @@
 //! The refusals that documents 01 and 02 add, and the order of all.
 
 use oracle::FrameInput;
-use oracle::generator::damage::{self, Part, WRONG_READINGS};
+use oracle::generator::damage::{self, Part, WRONG_DESKS, WRONG_READINGS};
 use oracle::generator::layout::Layout;
 use oracle::generator::{Kind, Plan, Random, base};
 use oracle::input::READINGS;
@@ -16,14 +16,22 @@ fn lent(seed: u64) -> (Plan, State, Random) {
     (Plan::random(seed), state, random.clone())
 }
 
+type Spoil = fn(&mut Random, &mut FrameInput, &mut State);
+
+/// Refusals that come before a string is read, and ways to them.
+const FIRST: [(u32, Spoil); 3] = [
+    (6, damage::wrong_loan),
+    (14, |random, input, _| {
+        input.desk = random.pick(&WRONG_DESKS)
+    }),
+    (7, damage::wild_value),
+];
+
 #[test]
-fn wrong_loans_and_wild_values_come_first() {
+fn wrong_loans_desks_and_wild_values_come_first() {
     for seed in 0..4 * Plan::SHAPES {
         let (plan, before, mut random) = lent(seed);
-        for (number, spoil) in [
-            (6, damage::wrong_loan as fn(&mut Random, &mut _, &mut State)),
-            (7, damage::wild_value),
-        ] {
+        for (number, spoil) in FIRST {
             let (mut input, mut state) = (plan.input(), before.clone());
             damage::noise(&mut random, &mut input, Part::Head);
             damage::noise(&mut random, &mut input, Part::Payload);
@@ -168,9 +176,12 @@ fn undefined_centre_in_its_order() {
     input.nb_steps[0][31] = 3;
     input.base_raw[0][0][0] = 5.0;
     input.head_bits = 15;
+    input.desk = 8;
     input.reading = 3;
     assert_eq!(number(&input), 6);
     input.reading = 2;
+    assert_eq!(number(&input), 14);
+    input.desk = 7;
     assert_eq!(number(&input), 7);
     input.base_raw[0][0][0] = 0.0;
     assert_eq!(number(&input), 1);
@@ -198,13 +209,14 @@ fn bounds_of_values_are_in() {
 
 #[test]
 fn refused_frames_leave_the_state_but_for_the_history_of_5() {
-    let mut seen = [0; 14];
+    let mut seen = [0; 15];
     let held: Vec<(u32, u32)> = held_rightly().into_iter().collect();
     for seed in 0..8 * Plan::SHAPES {
         let (plan, mut state, mut random) = lent(seed);
         (state.count, state.layout) = random.pick(&held);
         let mut input = plan.input();
         input.reading = random.pick(&READINGS);
+        input.desk = random.below(9);
         spoil_bits(&mut random, &plan, &mut input);
         let before = state.clone();
         let Err(refusal) = judge(&input, &mut state) else {
@@ -221,7 +233,7 @@ fn refused_frames_leave_the_state_but_for_the_history_of_5() {
             assert_eq!(state, before, "seed {seed}");
         }
     }
-    for number in [0, 1, 2, 3, 4, 5, 8, 13] {
+    for number in [0, 1, 2, 3, 4, 5, 8, 13, 14] {
         assert!(seen[number] > 0, "{seen:?}");
     }
 }

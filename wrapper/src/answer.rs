@@ -34,10 +34,12 @@ pub enum McError {
     InvalidAllocation,
     /// The header has centre code 2, which reading 2 leaves undefined.
     UndefinedCentre,
+    /// The desk is above 7.
+    InvalidDesk,
 }
 
 impl McError {
-    /// The number in document 01's table.
+    /// The number in document 01's table and the requests after it.
     pub const fn number(self) -> u8 {
         match self {
             McError::UnexpectedEnd => 1,
@@ -49,6 +51,7 @@ impl McError {
             McError::ValueOutOfRange => 7,
             McError::InvalidAllocation => 8,
             McError::UndefinedCentre => 13,
+            McError::InvalidDesk => 14,
         }
     }
 }
@@ -75,6 +78,7 @@ impl fmt::Display for McError {
                 "a step count or the LFE allocation does not fit what the head transmits"
             }
             McError::UndefinedCentre => "centre code 2 has no meaning under reading 2",
+            McError::InvalidDesk => "the desk is above 7",
         })
     }
 }
@@ -108,6 +112,7 @@ impl Answer {
             7 => McError::ValueOutOfRange,
             8 => McError::InvalidAllocation,
             13 => McError::UndefinedCentre,
+            14 => McError::InvalidDesk,
             other => unreachable!("there is no refusal {other}"),
         })
     }

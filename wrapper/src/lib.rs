@@ -16,6 +16,7 @@
 //!     payload: &[],
 //!     payload_bits: 0,
 //!     reading: 1,
+//!     desk: 3,
 //!     rate: 48_000,
 //!     base_channels: 1,
 //!     raw_left: &base,
@@ -35,6 +36,7 @@
 //! let mut state = McState::new();
 //! let used = decode(&mut state, &frame, &mut buffers)?;
 //! assert_eq!((used.head_bits, used.payload_bits), (35, 0));
+//! assert_eq!(state.accepted(), &[0, 0, 0, 1, 0, 0, 0, 0]);
 //! assert_eq!(output[0], 0.25);
 //! # Ok::<(), koftabasin::McError>(())
 //! ```
@@ -54,23 +56,28 @@ pub const OUTPUT: usize = 5760;
 pub const LFE: usize = 12;
 
 /// What passes from frame to frame: the base's last nine slots, the number of output channels, their
-/// layout where it is known, and the number of accepted frames. A state may be lent under another reading
-/// than before, as it is or after [`McState::carry`].
+/// layout where it is known, and each desk's number of accepted frames. All but the last is common to the
+/// desks. A state may be lent under another reading than before, as it is or after [`McState::carry`].
 #[derive(Debug, Clone, PartialEq)]
 pub struct McState(ffi::McDecodeState);
 
 impl McState {
     /// The state before the first frame of a stream.
     pub fn new() -> McState {
-        let mut state = McState::with([0.0; 576], 0, 0, 0);
+        let mut state = McState::with([0.0; 576], 0, 0, [0; 8]);
         state.reset();
         state
     }
 
-    /// A state as it was: history, layout length, layout and accepted frames. The reader refuses a
-    /// history value beyond -4 to 4, a layout length beyond 5, a layout that no header gives, and a
+    /// A state as it was: history, layout length, layout and accepted frames by desk. The reader refuses
+    /// a history value beyond -4 to 4, a layout length beyond 5, a layout that no header gives, and a
     /// layout with another length than its own.
-    pub const fn with(pred_hist: [f64; 576], layout_len: u8, layout: u8, accepted: u32) -> McState {
+    pub const fn with(
+        pred_hist: [f64; 576],
+        layout_len: u8,
+        layout: u8,
+        accepted: [u32; 8],
+    ) -> McState {
         McState(ffi::McDecodeState {
             pred_hist,
             layout_len,
@@ -79,25 +86,47 @@ impl McState {
         })
     }
 
+    /// A state of before there were desks, by its fields: keeps the history, 576 values, bit for bit,
+    /// whatever they are, the layout length and the layout, and gives desk 0 the accepted frames, the
+    /// others none. Where states held no layout yet, it is 0.
+    ///
+    /// The one refusal is [`McError::InvalidArgument`], of a history of another length and of what
+    /// [`McState::carry`] refuses.
+    pub fn convert(
+        pred_hist: &[f64],
+        layout_len: u8,
+        layout: u8,
+        accepted: u32,
+    ) -> Result<McState, McError> {
+        let mut state = McState::new();
+        let (values, length) = (pred_hist.as_ptr(), pred_hist.len());
+        // SAFETY: the reference is to a whole state, with the fields where the library has them; the
+        // pointer comes with the length of its slice, which the new state does not overlap.
+        let answer = unsafe {
+            ffi::mc_convert_state(&mut state.0, values, length, layout_len, layout, accepted)
+        };
+        Answer(answer.into()).result().map(|_| state)
+    }
+
     /// Makes the state that of a new stream.
     pub fn reset(&mut self) {
         // SAFETY: the reference is to a whole state, with the fields where the library has them.
         unsafe {
-            ffi::mc_fresh_state_layout(&mut self.0);
+            ffi::mc_fresh_state_desks(&mut self.0);
         }
     }
 
     /// Carries the state: keeps the history bit for bit, whatever its values, the layout length and the
-    /// accepted frames, and forgets the layout. It is called when a stream goes on under reading 2 with
-    /// what reading 1, or an earlier layout, left: the next frame may then have any layout of that
-    /// length, and any at all where the length is 0. A state may also be lent under another reading
-    /// without it; a known layout then stays what reading 2 compares.
+    /// accepted frames of all desks, and forgets the layout. It is called when a stream goes on under
+    /// reading 2 with what reading 1, or an earlier layout, left: the next frame may then have any layout
+    /// of that length, and any at all where the length is 0. A state may also be lent under another
+    /// reading without it; a known layout then stays what reading 2 compares.
     ///
     /// The one refusal is [`McError::InvalidArgument`], of a layout length beyond 5, a layout that no
     /// header gives, or a layout with another length than its own; the state is then as it was.
     pub fn carry(&mut self) -> Result<(), McError> {
         // SAFETY: the reference is to a whole state, with the fields where the library has them.
-        let answer = unsafe { ffi::mc_carry_state(&mut self.0) };
+        let answer = unsafe { ffi::mc_carry_state_desks(&mut self.0) };
         Answer(answer.into()).result().map(|_| ())
     }
 
@@ -119,9 +148,9 @@ impl McState {
         self.0.layout
     }
 
-    /// Accepted frames.
-    pub fn accepted(&self) -> u32 {
-        self.0.accepted
+    /// Accepted frames by desk, each staying at its greatest number.
+    pub fn accepted(&self) -> &[u32; 8] {
+        &self.0.accepted
     }
 }
 
@@ -149,6 +178,8 @@ pub struct Frame<'a> {
     /// reading 2 compares the layout where the state knows it, else the number, and an accepted frame
     /// stores its layout.
     pub reading: u32,
+    /// The desk that the frame is of, 0 to 7. It decides whose accepted frames rise, and nothing else.
+    pub desk: u32,
     /// 32,000, 44,100 or 48,000.
     pub rate: u32,
     /// 1 or 2; with one the right-hand slices are empty.
@@ -196,11 +227,12 @@ pub fn decode_packed(state: &mut McState, frame: &Frame<'_>, buffers: &mut Buffe
     // borrowed mutably and so overlaps nothing, and the library takes any lengths and numbers.
     #[rustfmt::skip]
     let answer = unsafe {
-        ffi::mc_decode_frame_layout(
+        ffi::mc_decode_frame_desks(
             &mut state.0,
             frame.head.as_ptr(), frame.head.len(), frame.head_bits,
             frame.payload.as_ptr(), frame.payload.len(), frame.payload_bits,
             frame.reading,
+            frame.desk,
             frame.rate,
             frame.base_channels,
             frame.raw_left.as_ptr(), frame.raw_left.len(),

@@ -3,11 +3,11 @@
 mod lent;
 
 use koftabasin::{Answer, McError, McState, Used};
-use lent::{Lent, held, history_bits};
+use lent::{Lent, WRONG_LOANS, first, held, history_bits};
 
 /// The frame is refused so, and leaves the buffers and the state alone.
 fn refused(mut lent: Lent, error: McError) {
-    let mut state = McState::with([0.5; 576], 2, 20, 3);
+    let mut state = McState::with([0.5; 576], 2, 20, first(3));
     let before = state.clone();
     assert_eq!(lent.decode(&mut state), Err(error));
     assert!(lent.untouched());
@@ -37,7 +37,7 @@ fn smallest_frame_is_accepted_under_both_readings() {
 
 #[test]
 fn fresh_state_is_all_zero() {
-    let mut state = McState::with([-0.0; 576], 9, 9, 9);
+    let mut state = McState::with([-0.0; 576], 9, 9, [9; 8]);
     state.reset();
     assert_eq!(history_bits(&state), [0; 576]);
     assert_eq!(held(&state), (0, 0, 0));
@@ -142,30 +142,9 @@ fn reserved_scalefactor() {
     refused(lent, McError::ReservedScalefactor);
 }
 
-/// Reading 257 has 1 in its lowest byte.
 #[test]
 fn wrong_arguments() {
-    let wrong: [fn(&mut Lent); 18] = [
-        |lent| lent.head_bits = 41,
-        |lent| lent.head = vec![0; 8193],
-        |lent| lent.reading = 0,
-        |lent| lent.reading = 3,
-        |lent| lent.reading = 257,
-        |lent| lent.reading = u32::MAX,
-        |lent| lent.rate = 22_050,
-        |lent| lent.base_channels = 3,
-        |lent| lent.base_channels = 1,
-        |lent| lent.lfe_allocation = 16,
-        |lent| lent.base_nb_steps[63] = 4,
-        |lent| lent.base_nb_steps.truncate(63),
-        |lent| lent.nb_steps.push(0),
-        |lent| lent.base[3].truncate(1151),
-        |lent| lent.written[0].truncate(3455),
-        |lent| lent.written[1].truncate(0),
-        |lent| lent.written[2].push(7.0),
-        |lent| lent.written[3].truncate(11),
-    ];
-    for change in wrong {
+    for change in WRONG_LOANS {
         let mut lent = Lent::smallest();
         change(&mut lent);
         refused(lent, McError::InvalidArgument);
@@ -182,7 +161,7 @@ fn wild_values() {
     }
     let mut history = [0.0; 576];
     history[575] = above;
-    let answer = Lent::smallest().decode(&mut McState::with(history, 0, 0, 0));
+    let answer = Lent::smallest().decode(&mut McState::with(history, 0, 0, [0; 8]));
     assert_eq!(answer, Err(McError::ValueOutOfRange));
 }
 
@@ -203,7 +182,7 @@ fn answers_and_words() {
         payload_bits: 55_134,
     };
     assert_eq!(Answer(55_134 << 32 | 232 << 8).result(), Ok(used));
-    for number in [1, 2, 3, 4, 5, 6, 7, 8, 13] {
+    for number in [1, 2, 3, 4, 5, 6, 7, 8, 13, 14] {
         let answer = if number == 2 {
             15 << 32 | 11 << 8 | 2
         } else {
@@ -216,4 +195,5 @@ fn answers_and_words() {
     let forbidden = McError::ForbiddenDynCrossMode { sbgr: 11, mode: 15 };
     let words = "crosstalk code 15 in subband group 11 is not listed for this layout";
     assert_eq!(forbidden.to_string(), words);
+    assert_eq!(McError::InvalidDesk.to_string(), "the desk is above 7");
 }

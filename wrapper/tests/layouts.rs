@@ -3,67 +3,17 @@
 mod lent;
 
 use koftabasin::{McError, McState};
-use lent::{Lent, held, history_bits};
+use lent::{LAYOUTS, Lent, every_held, first, held, history_bits, pattern_bits};
 
-/// A frame of this layout under this reading, with one tc.
-fn of_layout(layout: u8, reading: u32) -> Lent {
-    let (front, surround) = (layout / 10, layout % 10);
-    let mut lent = Lent::smallest();
-    lent.head[0] = u8::from(front == 3) << 5 | surround << 3;
-    lent.head[4] = 0x80;
-    lent.head_bits += match (front, surround) {
-        (3, 1 | 2) => 3,
-        (3, _) | (2, 1 | 2) => 2,
-        _ => 0,
-    };
-    lent.reading = reading;
-    if front == 1 { lent.mono() } else { lent }
-}
-
-/// NaN of either sign, quiet and signalling, with payloads of one bit and of many; infinities; zeros of
-/// both signs; a value within the bounds, and one beyond them.
-const PATTERNS: [u64; 14] = [
-    0x7FF8_0000_0000_0000,
-    0xFFF8_0000_0000_0000,
-    0x7FF0_0000_0000_0001,
-    0xFFF0_0000_0000_0001,
-    0x7FF7_FFFF_FFFF_FFFF,
-    0xFFF4_0000_DEAD_BEEF,
-    0x7FFF_FFFF_FFFF_FFFF,
-    0xFFF8_1234_5678_9ABC,
-    0x7FF0_0000_0000_0000,
-    0xFFF0_0000_0000_0000,
-    0x8000_0000_0000_0000,
-    0x0000_0000_0000_0000,
-    0xBFE0_0000_0000_0000,
-    0x7E37_E43C_8800_759C,
-];
-
-/// Each pattern in turn, over a whole history.
-fn pattern_bits() -> [u64; 576] {
-    std::array::from_fn(|k| PATTERNS[k % PATTERNS.len()])
-}
-
-/// A state with those patterns and three accepted frames.
+/// A state with patterns of all kinds and three accepted frames.
 fn patterned(layout_len: u8, layout: u8) -> McState {
-    McState::with(pattern_bits().map(f64::from_bits), layout_len, layout, 3)
+    McState::with(
+        pattern_bits().map(f64::from_bits),
+        layout_len,
+        layout,
+        first(3),
+    )
 }
-
-/// Each layout with the number of its channels.
-const LAYOUTS: [(u8, u8); 12] = [
-    (10, 1),
-    (11, 2),
-    (12, 3),
-    (13, 3),
-    (20, 2),
-    (21, 3),
-    (22, 4),
-    (23, 4),
-    (30, 3),
-    (31, 4),
-    (32, 5),
-    (33, 5),
-];
 
 /// By the length under either reading, and by the layout under reading 2.
 #[test]
@@ -72,7 +22,7 @@ fn changed_layout_stores_the_history() {
     {
         let mut lent = Lent::smallest();
         lent.reading = reading;
-        let mut state = McState::with([0.5; 576], layout_len, layout, 3);
+        let mut state = McState::with([0.5; 576], layout_len, layout, first(3));
         assert_eq!(lent.decode(&mut state), Err(McError::ConfigChanged));
         assert!(lent.untouched());
         assert_eq!(held(&state), (layout_len, layout, 3));
@@ -85,11 +35,11 @@ fn changed_layout_stores_the_history() {
 fn each_layout_is_stored() {
     for (layout, layout_len) in LAYOUTS {
         let mut state = McState::new();
-        assert!(of_layout(layout, 1).decode(&mut state).is_ok());
+        assert!(Lent::of_layout(layout, 1).decode(&mut state).is_ok());
         assert_eq!(held(&state), (layout_len, 0, 1));
-        assert!(of_layout(layout, 2).decode(&mut state).is_ok());
+        assert!(Lent::of_layout(layout, 2).decode(&mut state).is_ok());
         assert_eq!(held(&state), (layout_len, layout, 2));
-        assert!(of_layout(layout, 1).decode(&mut state).is_ok());
+        assert!(Lent::of_layout(layout, 1).decode(&mut state).is_ok());
         assert_eq!(held(&state), (layout_len, layout, 3));
     }
 }
@@ -99,7 +49,7 @@ fn each_layout_is_stored() {
 fn layouts_of_one_length() {
     let mut state = McState::new();
     let next = |layout, reading, state: &mut McState| {
-        let answer = of_layout(layout, reading).decode(state);
+        let answer = Lent::of_layout(layout, reading).decode(state);
         (answer.map(|used| used.head_bits), held(state))
     };
     let changed = Err(McError::ConfigChanged);
@@ -142,11 +92,7 @@ fn wrong_states() {
 /// Nothing held, a lone length, and each layout with its length; every other pair is refused and stays.
 #[test]
 fn carrying_keeps_all_but_the_layout() {
-    for (layout_len, layout) in (0..=255).flat_map(|len| (0..=255).map(move |n| (len, n))) {
-        let right = match layout {
-            0 => layout_len <= 5,
-            _ => LAYOUTS.contains(&(layout, layout_len)),
-        };
+    for (layout_len, layout, right) in every_held() {
         let (answer, kept) = match right {
             true => (Ok(()), 0),
             false => (Err(McError::InvalidArgument), layout),
@@ -158,24 +104,14 @@ fn carrying_keeps_all_but_the_layout() {
     }
 }
 
-#[test]
-fn counter_stays_when_carried() {
-    for accepted in [0, 1, 255, 256, u32::MAX - 1, u32::MAX] {
-        let mut state = McState::with([-0.0; 576], 3, 30, accepted);
-        assert_eq!(state.carry(), Ok(()));
-        assert_eq!(held(&state), (3, 0, accepted));
-        assert_eq!(history_bits(&state), [1 << 63; 576]);
-    }
-}
-
 /// After carrying nothing, any layout follows; history and counter stay.
 #[test]
 fn carried_state_without_a_length_is_as_a_fresh_one() {
     for (layout, layout_len) in LAYOUTS {
-        let mut state = McState::with([0.5; 576], 0, 0, 7);
+        let mut state = McState::with([0.5; 576], 0, 0, first(7));
         assert_eq!(state.carry(), Ok(()));
         assert_eq!(history_bits(&state), [0.5f64.to_bits(); 576]);
-        assert!(of_layout(layout, 2).decode(&mut state).is_ok());
+        assert!(Lent::of_layout(layout, 2).decode(&mut state).is_ok());
         assert_eq!(held(&state), (layout_len, layout, 8));
     }
 }

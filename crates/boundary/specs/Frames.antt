@@ -10,7 +10,7 @@ use Rattle.boundary_run.specs.String.{nothing, bytesOf}
 use Rattle.boundary_run.specs.Loan.{stepAt, byteFrom, onesAt}
 use Rattle.boundary.specs.Heads.{written, plainHead, crossedHead, longestHead}
 
--- at 44,100 Hz, the right base channel from -1.5 on; the rest as named, first the reading
+-- from desk 0 at 44,100 Hz, the right base channel from -1.5 on; the rest as named, first the reading
 abbrev pub lent : ℕ → Bits → ℕ → List ℕ → ℕ → ℕ → Float → ℕ → List ℕ → Loan
 lent reading head headBits payload payloadBits baseChannels left lfe steps =
     record {
@@ -19,6 +19,7 @@ lent reading head headBits payload payloadBits baseChannels left lfe steps =
       payload = payload;
       «payload_bits» = payloadBits;
       reading = reading;
+      desk = 0;
       rate = 44100;
       «base_channels» = baseChannels;
       left = left;

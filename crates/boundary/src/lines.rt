@@ -24,7 +24,7 @@ use boundary_run::run_frame;
 use mc_state::McDecodeState;
 
 // A frame's line, and the state after it.
-fn line(name: &[u8], loan: Loan, state: McDecodeState) -> McDecodeState {
+pub fn line(name: &[u8], loan: Loan, state: McDecodeState) -> McDecodeState {
     let found = run_frame(loan, state);
     say(name);
     say_found(loan, state, found);
@@ -176,7 +176,7 @@ fn read_line(name: &[u8], frame: Loan, reading: u32, state: McDecodeState) -> Mc
 }
 
 // The line of carrying, and the state after it.
-fn carry_line(name: &[u8], state: McDecodeState) -> McDecodeState {
+pub fn carry_line(name: &[u8], state: McDecodeState) -> McDecodeState {
     let carried = state.carry();
     say(name);
     say_carried(state, carried);

@@ -1,10 +1,14 @@
-// Runs the boundary frames of document 01 that are executed, each of the nine refusals, centre code 2 and the phantom centre under both readings,
-// and changes of reading with and without carrying, and writes a line on each: what the call answered, and what became of the buffers and of the state.
+// Runs the boundary frames of document 01 that are executed, each of the ten refusals, centre code 2 and the phantom centre under both readings,
+// changes of reading with and without carrying, desks and conversion, and writes a line on each: what the call answered, and what became of the buffers
+// and of the state.
+mod desks;
 mod frames;
 mod heads;
 mod lines;
 mod print;
 
+use desks::convert_lines;
+use desks::desk_lines;
 use lines::carry_lines;
 use lines::layout_lines;
 use lines::mono_lines;
@@ -21,4 +25,6 @@ fn main() {
     reading_lines();
     phantom_lines();
     carry_lines();
+    desk_lines();
+    convert_lines();
 }

@@ -1,7 +1,7 @@
 // Writes lines.
 ghost use mathlib.Core.Path.{_≡_};
 ghost use Rattle.boundary_look.specs.Look.{sameValues};
-ghost use Rattle.boundary_run.specs.Run.{sameCounts, storedBy};
+ghost use Rattle.boundary_run.specs.Run.{sameTallies, sameCounts, storedBy};
 use boundary_look::is_stored;
 use boundary_look::same_values;
 use boundary_run::Found;
@@ -39,7 +39,15 @@ fn say_answer(answer: Told) {
     say_number(answer.second);
 }
 
-// The counts, and the layout where it is known.
+fn say_tallies(tallies: [u32; 8]) {
+    say(b"tallies");
+    for desk in 0usize..8 {
+        say(b" ");
+        say_number(tallies[desk] as usize);
+    }
+}
+
+// The count, the layout where it is known, and the tallies of all desks.
 fn say_counts(state: McDecodeState) {
     say(b"layout count ");
     say_number(state.layout_len as usize);
@@ -47,8 +55,9 @@ fn say_counts(state: McDecodeState) {
         say(b", layout ");
         say_number(state.layout as usize);
     }
-    say(b", accepted frames ");
-    say_number(state.accepted as usize);
+    say(b", ");
+    let tallies = state.accepted;
+    say_tallies(tallies);
 }
 
 // Whether the history holds the base's last slots; one base channel stands in both halves.
@@ -72,12 +81,24 @@ fn same_history(before: McDecodeState, after: McDecodeState) -> bool
     same_values(&old, &new)
 }
 
-// Whether the counts and the layout are the same.
+fn same_tallies(xs: [u32; 8], ys: [u32; 8]) -> bool
+    ensures { λ r. ⌜ r ≡ sameTallies xs ys ⌝ }
+{
+    let mut are = true;
+    for desk in 0usize..8 {
+        are = are & (xs[desk] == ys[desk]);
+    }
+    are
+}
+
+// Whether the count, the layout and the tallies are the same.
 fn same_counts(before: McDecodeState, after: McDecodeState) -> bool
     ensures { λ r. ⌜ r ≡ sameCounts before after ⌝ }
 {
-    (before.layout_len == after.layout_len)
-        & ((before.layout == after.layout) & (before.accepted == after.accepted))
+    let old = before.accepted;
+    let new = after.accepted;
+    let tallies = same_tallies(old, new);
+    (before.layout_len == after.layout_len) & ((before.layout == after.layout) & tallies)
 }
 
 // What became of the state.
@@ -134,4 +155,28 @@ pub fn say_carried(before: McDecodeState, carried: CarriedState) {
         say(b"; history not as it was, ");
     }
     say_counts(after);
+}
+
+// What conversion answered, and what became of the state and of the older one's history, without the line's end.
+pub fn say_converted(before: McDecodeState, history: &[f64], converted: CarriedState) {
+    let answer = converted.answer;
+    let after = converted.state;
+    match answer {
+        CarryAnswer::Carried => {
+            let kept = after.pred_hist;
+            if same_values(&kept, history) {
+                say(b": converted; history kept, ");
+            } else {
+                say(b": converted; history not kept, ");
+            }
+            say_counts(after);
+        }
+        CarryAnswer::Refused(e) => {
+            say(b": refusal ");
+            say_number(e.number() as usize);
+            if same_history(before, after) & same_counts(before, after) {
+                say(b"; state as it was");
+            }
+        }
+    }
 }

@@ -31,7 +31,7 @@ onesAt first end k = cond (leb first k) (cond (ltb k end) 255 0) 0
 unfoldable pub byteFrom : List ℕ → ℕ → ℕ
 byteFrom start k = cond (ltb k 29) (getD start k 0) 0
 
--- the head under reading 1, a stereo base at 44,100 Hz whose channels begin with 0.25 and -1.5, and no payload
+-- the head under reading 1 from desk 0, a stereo base at 44,100 Hz whose channels begin with 0.25 and -1.5, and no payload
 abbrev pub loanOf : Bits → Loan
 loanOf head =
     record {
@@ -40,6 +40,7 @@ loanOf head =
       payload = replicate 6892 0;
       «payload_bits» = 0;
       reading = 1;
+      desk = 0;
       rate = 44100;
       «base_channels» = 2;
       left = ofBits binary64 0x3FD0000000000000;

@@ -6,8 +6,10 @@ use Prim.Native.Nat.{ℕ, _+_}
 use lib.Dec.{eqb}
 use lib.Ieee.{Float, binary64, ofBits}
 use lib.ListN.{take, replicate}
+use Rattle.fill.specs.Each.{each}
 use Rattle.mc_base.specs.Base.{baseFrom}
 use Rattle.mc_state.specs.Answer.{lentOf, buffersFrom, outcomeOf}
+use Rattle.mc_state.specs.Desk.{tallyAt}
 use Rattle.mc_state.specs.Frame.{Lent, Buffers, After, frameOf}
 use Rattle.mc_state.specs.declared.McDecodeState.{McDecodeState}
 use Rattle.boundary_run.specs.Loan.{rampOf}
@@ -21,7 +23,7 @@ one64 = ofBits binary64 0x3FF0000000000000
 -- the loan with these base channels, raw and scaled, and base step counts
 abbrev pub lentBy : Loan → List Float → List Float → List ℕ → Lent
 lentBy loan left right baseSteps =
-    lentOf (loan .head) (loan .«head_bits») (loan .payload) (loan .«payload_bits») (loan .reading) (loan .rate) (loan .«base_channels») (baseFrom left right left right) baseSteps (loan .«lfe_allocation») (loan .steps)
+    lentOf (loan .head) (loan .«head_bits») (loan .payload) (loan .«payload_bits») (loan .reading) (loan .desk) (loan .rate) (loan .«base_channels») (baseFrom left right left right) baseSteps (loan .«lfe_allocation») (loan .steps)
 
 -- how many of n a second base channel has
 abbrev pub secondLength : ℕ → ℕ → ℕ
@@ -42,10 +44,14 @@ unfoldable pub storedBy : Loan → List Float → Bool
 storedBy loan history =
     isStored history (rampOf (loan .left)) (cond (eqb (loan .«base_channels») 1) (rampOf (loan .left)) (rampOf (loan .right)))
 
--- count, layout and counter are the same
+-- the tallies of all desks are the same
+abbrev pub sameTallies : List ℕ → List ℕ → Bool
+sameTallies xs ys = each (λ desk. eqb (tallyAt xs desk) (tallyAt ys desk)) 8
+
+-- count, layout and tallies are the same
 abbrev pub sameCounts : McDecodeState → McDecodeState → Bool
 sameCounts before after =
-    eqb (before .«layout_len») (after .«layout_len») && (eqb (before .layout) (after .layout) && eqb (before .accepted) (after .accepted))
+    eqb (before .«layout_len») (after .«layout_len») && (eqb (before .layout) (after .layout) && sameTallies (before .accepted) (after .accepted))
 
 -- answer, state and output are the call's; `kept` says whether its buffers are the ones before it
 pub record FoundIs (a : After) (r : Found) : Type 0 where

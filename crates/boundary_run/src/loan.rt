@@ -12,6 +12,7 @@ pub struct Loan {
     pub payload: [u8; 6892],
     pub payload_bits: usize,
     pub reading: u32,
+    pub desk: u32,
     pub rate: u32,
     pub base_channels: u8,
     // the first base value of each channel, raw and scaled
@@ -22,7 +23,7 @@ pub struct Loan {
 }
 
 impl Loan {
-    // The head under reading 1, a stereo base at 44,100 Hz, and no payload.
+    // The head under reading 1 from desk 0, a stereo base at 44,100 Hz, and no payload.
     pub fn new(head: Bits) -> Loan
         ensures { λ r. ⌜ r ≡ loanOf head ⌝ }
     {
@@ -34,6 +35,7 @@ impl Loan {
             payload: [0; 6892],
             payload_bits: 0,
             reading: 1,
+            desk: 0,
             rate: 44100,
             base_channels: 2,
             left: 0.25,

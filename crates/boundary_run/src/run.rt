@@ -82,6 +82,7 @@ fn call<'a>(
         &payload,
         loan.payload_bits,
         loan.reading,
+        loan.desk,
         loan.rate,
         loan.base_channels,
         left,

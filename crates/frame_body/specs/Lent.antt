@@ -15,21 +15,26 @@ use Rattle.mc_config.specs.declared.McHeader.{McHeader}
 use Rattle.mc_config.specs.declared.layout.Layout.{Layout}
 use Rattle.mc_base.specs.Base.{baseFrom}
 use Rattle.mc_state.specs.Answer.{lentOf}
-use Rattle.mc_state.specs.Frame.{Lent}
+use Rattle.mc_state.specs.Carry.{Carrying, convertedOver}
+use Rattle.mc_state.specs.Frame.{Lent, fresh}
 use Rattle.mc_state.specs.declared.McDecodeState.{McDecodeState}
 use Rattle.mc_fields.specs.declared.McStatus.{McStatus}
 
--- the state that follows the opening, which has a count and no layout
-unfoldable pub stateOf : List ℕ → McDecodeState
-stateOf bytes = record { «pred_hist» = tab (valueAt bytes 5) 576; «layout_len» = numberAt bytes 0 1; layout = 0; accepted = numberAt bytes 1 4 }
+-- ---- the state that follows the opening
+
+-- in the first version a count, a tally and the history, which are converted
+unfoldable pub firstState : List ℕ → Carrying
+firstState bytes = convertedOver (tab (valueAt bytes 5) 576) (numberAt bytes 0 1) 0 (numberAt bytes 1 4) fresh
+
+-- in the second the tallies, the count, the layout and the history
+unfoldable pub secondState : List ℕ → McDecodeState
+secondState bytes = record { «pred_hist» = tab (valueAt bytes 34) 576; «layout_len» = numberAt bytes 32 1; layout = numberAt bytes 33 1; accepted = tab (stepAt bytes) 8 }
+
+-- ---- a frame
 
 -- the elements from a to before e
 abbrev pub between : {A : Type 0} → ℕ → ℕ → List A → List A
 between a e xs = take (e - a) (drop a xs)
-
--- a frame file is read under reading 1
-abbrev pub fileReading : ℕ
-fileReading = 1
 
 -- what is lent of these bytes, step counts and values
 unfoldable pub lentFrom : Numbers → List ℕ → List ℕ → List Float → Lent
@@ -37,7 +42,7 @@ lentFrom n body steps values =
     let channels = n .«base_channels» in
     lentOf (between (headAt n) (payloadAt n) body) (n .«head_bits»)
     (between (payloadAt n) (valuesAt n) body) (n .«payload_bits»)
-    fileReading (n .rate) channels
+    (n .reading) (n .desk) (n .rate) channels
     (baseFrom (between 0 1152 values) (between 1152 (1152 * channels) values) (between (1152 * channels) (1152 * channels + 1152) values) (between (1152 * channels + 1152) (2304 * channels) values))
     (between 0 (32 * channels) steps)
     (n .«lfe_allocation»)

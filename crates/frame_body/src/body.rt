@@ -1,9 +1,9 @@
 // The frame call on the bytes of a file.
 ghost use mathlib.Core.Path.{_≡_};
-ghost use Rattle.mc_state.specs.Answer.{buffersFrom, afterOf};
+ghost use Rattle.mc_state.specs.Answer.{buffersFrom, afterOf, carryingOf};
 ghost use Rattle.mc_state.specs.Frame.{frameOf};
 ghost use Rattle.mc_fields.specs.Lent.{headOf};
-ghost use Rattle.frame_body.specs.Lent.{Whole, Cut, fileReading, lentFrom, lentIn, layoutFor, stateOf};
+ghost use Rattle.frame_body.specs.Lent.{Whole, Cut, lentFrom, lentIn, layoutFor, firstState, secondState};
 use encoding::u8_at;
 use encoding::u32_at;
 use frame_file::Numbers;
@@ -14,11 +14,9 @@ use mc_config::McConfig;
 use mc_decode::frame_by_value;
 use mc_head::HeadAnswer;
 use mc_head::read_head;
+use mc_state::CarriedState;
 use mc_state::Framed;
 use mc_state::McDecodeState;
-
-// A frame file is read under reading 1.
-const READING: u32 = 1;
 
 // The frame call on a frame's bytes, step counts and values.
 fn decode_parts(
@@ -50,7 +48,8 @@ fn decode_parts(
         n.head_bits as usize,
         &body[payload..end],
         n.payload_bits as usize,
-        READING,
+        n.reading,
+        n.desk,
         n.rate,
         n.base_channels,
         &values[0..1152],
@@ -102,10 +101,10 @@ pub fn decode_body(
 }
 
 // The output channels of a head; none of a refused one.
-pub fn layout_of(head: &[u8], bits: usize, base_channels: u8) -> Layout
-    ensures { λ r. ⌜ r ≡ layoutFor (headOf fileReading (now (head .entry)) bits «base_channels») «base_channels» ⌝ }
+pub fn layout_of(head: &[u8], bits: usize, reading: u32, base_channels: u8) -> Layout
+    ensures { λ r. ⌜ r ≡ layoutFor (headOf reading (now (head .entry)) bits «base_channels») «base_channels» ⌝ }
 {
-    let found = read_head(head, bits, READING, base_channels);
+    let found = read_head(head, bits, reading, base_channels);
     let answer = found.answer;
     match answer {
         HeadAnswer::Accepted(_) => {
@@ -119,16 +118,29 @@ pub fn layout_of(head: &[u8], bits: usize, base_channels: u8) -> Layout
     }
 }
 
-// The state that a file carries; its layout is not known.
-pub fn state_of(bytes: &[u8]) -> McDecodeState
-    ensures { λ r. ⌜ r ≡ stateOf (now (bytes .entry)) ⌝ }
+// The state of a file of the first version, converted: it has a count and one tally.
+pub fn first_state(bytes: &[u8]) -> CarriedState
+    ensures { λ r. ⌜ carryingOf (r .answer) (r .state) ≡ firstState (now (bytes .entry)) ⌝ }
 {
     let mut history = [0.0f64; 576];
     fill_values(bytes, 5, &mut history);
+    let count = u8_at(bytes, 0);
+    let tally = u32_at(bytes, 1);
+    McDecodeState::new().convert(&history, count, 0, tally)
+}
+
+// The state of a file of the second version.
+pub fn second_state(bytes: &[u8]) -> McDecodeState
+    ensures { λ r. ⌜ r ≡ secondState (now (bytes .entry)) ⌝ }
+{
+    let mut tallies = [0u32; 8];
+    fill_steps(bytes, &mut tallies);
+    let mut history = [0.0f64; 576];
+    fill_values(bytes, 34, &mut history);
     McDecodeState {
         pred_hist: history,
-        layout_len: u8_at(bytes, 0),
-        layout: 0,
-        accepted: u32_at(bytes, 1),
+        layout_len: u8_at(bytes, 32),
+        layout: u8_at(bytes, 33),
+        accepted: tallies,
     }
 }

@@ -3,5 +3,6 @@
 mod body;
 
 pub use body::decode_body;
+pub use body::first_state;
 pub use body::layout_of;
-pub use body::state_of;
+pub use body::second_state;

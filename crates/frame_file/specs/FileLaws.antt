@@ -13,30 +13,44 @@ use Rattle.encoding.specs.Encoding.{lowestFirst, numberAt}
 use Rattle.fill.specs.Tab.{tab}
 use Rattle.frame_file.specs.declared.numbers.Numbers.{Numbers}
 use Rattle.fill.specs.Ascii.{ascii}
-use Rattle.frame_file.specs.File.{openingFault, faultOf}
+use Rattle.frame_file.specs.File.{versionOf, openingFault, faultOf}
 
 -- ---- the opening
 
 module _ (bytes : List ℕ) where
+  pub version-first : numberAt bytes 0 8 ≡ 0x53454D415246434D → 1 ≡ versionOf bytes
+  unfolding versionOf ascii tab lowestFirst
+  version-first e = simp (eq-eqb _ _ e)
+
+  pub version-second : (numberAt bytes 0 8 ≡ 0x53454D415246434D → ⊥) → numberAt bytes 0 8 ≡ 0x32454D415246434D → 2 ≡ versionOf bytes
+  unfolding versionOf ascii tab lowestFirst
+  version-second h e = simp (ne-eqb _ _ h, eq-eqb _ _ e)
+
+  pub version-none : (numberAt bytes 0 8 ≡ 0x53454D415246434D → ⊥) → (numberAt bytes 0 8 ≡ 0x32454D415246434D → ⊥) → 0 ≡ versionOf bytes
+  unfolding versionOf ascii tab lowestFirst
+  version-none h k = simp (ne-eqb _ _ h, ne-eqb _ _ k)
+
   pub opening-empty : length bytes ≡ 0 → 1 ≡ openingFault bytes
   unfolding openingFault
   opening-empty e = simp (eq-eqb _ _ e)
 
-  pub opening-other : (length bytes ≡ 0 → ⊥) → (numberAt bytes 0 8 ≡ 0x53454D415246434D → ⊥) → 2 ≡ openingFault bytes
-  unfolding openingFault ascii tab lowestFirst
-  opening-other l h = simp (ne-eqb _ _ l, ne-eqb _ _ h)
+  module _ (some : length bytes ≡ 0 → ⊥) where
+    pub opening-other : versionOf bytes ≡ 0 → 2 ≡ openingFault bytes
+    unfolding openingFault
+    opening-other v = simp (ne-eqb _ _ some, eq-eqb _ _ v)
 
-  pub opening-cut : (length bytes ≡ 0 → ⊥) → numberAt bytes 0 8 ≡ 0x53454D415246434D → length bytes < 13 → 3 ≡ openingFault bytes
-  unfolding openingFault ascii tab lowestFirst
-  opening-cut l e h = simp (ne-eqb _ _ l, eq-eqb _ _ e, lt-ltb _ _ h)
+    module _ (known : versionOf bytes ≡ 0 → ⊥) where
+      pub opening-cut : length bytes < 13 → 3 ≡ openingFault bytes
+      unfolding openingFault
+      opening-cut h = simp (ne-eqb _ _ some, ne-eqb _ _ known, lt-ltb _ _ h)
 
-  pub opening-flag : (length bytes ≡ 0 → ⊥) → numberAt bytes 0 8 ≡ 0x53454D415246434D → 13 ≤ length bytes → 1 < numberAt bytes 12 1 → 4 ≡ openingFault bytes
-  unfolding openingFault ascii tab lowestFirst
-  opening-flag l e h f = simp (ne-eqb _ _ l, eq-eqb _ _ e, le-ltb _ _ h, lt-ltb _ _ f)
+      pub opening-flag : 13 ≤ length bytes → 1 < numberAt bytes 12 1 → 4 ≡ openingFault bytes
+      unfolding openingFault
+      opening-flag h f = simp (ne-eqb _ _ some, ne-eqb _ _ known, le-ltb _ _ h, lt-ltb _ _ f)
 
-  pub opening-right : (length bytes ≡ 0 → ⊥) → numberAt bytes 0 8 ≡ 0x53454D415246434D → 13 ≤ length bytes → numberAt bytes 12 1 ≤ 1 → 0 ≡ openingFault bytes
-  unfolding openingFault ascii tab lowestFirst
-  opening-right l e h f = simp (ne-eqb _ _ l, eq-eqb _ _ e, le-ltb _ _ h, le-ltb _ _ f)
+      pub opening-right : 13 ≤ length bytes → numberAt bytes 12 1 ≤ 1 → 0 ≡ openingFault bytes
+      unfolding openingFault
+      opening-right h f = simp (ne-eqb _ _ some, ne-eqb _ _ known, le-ltb _ _ h, le-ltb _ _ f)
 
 -- ---- a frame
 
@@ -48,13 +62,15 @@ pub record Right (n : Numbers) : Type 0 where
   pub payload : n .«payload_bytes» ≤ 8192
 
 module _ (n : Numbers) where
-  by-tests : (none many headLong payloadLong : Bool) → eqb (n .«base_channels») 0 ≡ none → ltb 2 (n .«base_channels») ≡ many → ltb 8192 (n .«head_bytes») ≡ headLong → ltb 8192 (n .«payload_bytes») ≡ payloadLong
-      → _≡_ {A = ℕ} (cond none 1 (cond many 1 (cond headLong 2 (cond payloadLong 3 0)))) 0 → Right n
-  by-tests true many hl pl a b c d e = absurd (omega arith)
-  by-tests false true hl pl a b c d e = absurd (omega arith)
-  by-tests false false true pl a b c d e = absurd (omega arith)
-  by-tests false false false true a b c d e = absurd (omega arith)
-  by-tests false false false false a b c d e =
+  by-tests : (call carried none many headLong payloadLong : Bool) → eqb (n .«base_channels») 0 ≡ none → ltb 2 (n .«base_channels») ≡ many → ltb 8192 (n .«head_bytes») ≡ headLong → ltb 8192 (n .«payload_bytes») ≡ payloadLong
+      → _≡_ {A = ℕ} (cond call (cond carried 5 (cond none 1 (cond many 1 (cond headLong 2 (cond payloadLong 3 0))))) 4) 0 → Right n
+  by-tests false q none many hl pl a b c d e = absurd (omega arith)
+  by-tests true true none many hl pl a b c d e = absurd (omega arith)
+  by-tests true false true many hl pl a b c d e = absurd (omega arith)
+  by-tests true false false true hl pl a b c d e = absurd (omega arith)
+  by-tests true false false false true pl a b c d e = absurd (omega arith)
+  by-tests true false false false false true a b c d e = absurd (omega arith)
+  by-tests true false false false false false a b c d e =
       record {
         one = ⊎-elim (λ z. absurd (eqb-false _ _ a z)) (λ p. omega arith) (eq-zero-or-pos (n .«base_channels»));
         two = ltb-false _ _ b;
@@ -64,4 +80,4 @@ module _ (n : Numbers) where
 
   pub right-of : faultOf n ≡ 0 → Right n
   unfolding faultOf
-  right-of e = by-tests _ _ _ _ refl refl refl refl e
+  right-of e = by-tests (eqb (n .call) 1) (ltb 1 (n .carried)) _ _ _ _ refl refl refl refl e

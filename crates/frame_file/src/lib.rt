@@ -3,6 +3,8 @@
 mod numbers;
 
 pub use numbers::BASE_CHANNELS;
+pub use numbers::CALL;
+pub use numbers::CARRIED;
 pub use numbers::EMPTY;
 pub use numbers::HEAD_BYTES;
 pub use numbers::NEITHER_0_NOR_1;
@@ -15,5 +17,7 @@ pub use numbers::body_bytes;
 pub use numbers::fault_of;
 pub use numbers::fill_steps;
 pub use numbers::fill_values;
+pub use numbers::number_bytes;
 pub use numbers::numbers_of;
 pub use numbers::opening_fault;
+pub use numbers::version_of;

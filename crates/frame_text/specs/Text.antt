@@ -8,7 +8,7 @@ use lib.ListN.{length, take}
 use Rattle.fill.specs.Ascii.{ascii}
 use Rattle.mc_config.specs.Config.{left, right, centre, leftSurround, rightSurround, monoSurround, secondLeft}
 use Rattle.mc_error.specs.declared.McError.{McError}
-use Rattle.mc_error.specs.declared.McError.the-variants.{UnexpectedEnd, ForbiddenDynCrossMode, MlLayer3Unsupported, ReservedScalefactor, ConfigChanged, InvalidArgument, ValueOutOfRange, InvalidAllocation, UndefinedCentre}
+use Rattle.mc_error.specs.declared.McError.the-variants.{UnexpectedEnd, ForbiddenDynCrossMode, MlLayer3Unsupported, ReservedScalefactor, ConfigChanged, InvalidArgument, ValueOutOfRange, InvalidAllocation, UndefinedCentre, InvalidDesk}
 use Rattle.frame_text.specs.declared.text.Text.{Text}
 
 -- the first bytes of t are s, and so many are said
@@ -34,8 +34,9 @@ wordsOf UnexpectedEnd = ascii "a field passes the bit count of its string"
 wordsOf (ForbiddenDynCrossMode group code) = ascii "a crosstalk code is not listed"
 wordsOf MlLayer3Unsupported = ascii "the header's Layer III flag is set"
 wordsOf ReservedScalefactor = ascii "a scalefactor index is 63, which is reserved"
-wordsOf ConfigChanged = ascii "the layout has another number of channels than before"
-wordsOf InvalidArgument = ascii "a bit count, rate, LFE allocation, base step count or layout count is wrong"
+wordsOf ConfigChanged = ascii "the layout, or under reading 1 its number of channels, is another than before"
+wordsOf InvalidArgument = ascii "a bit count, reading, rate, LFE allocation, base step count or layout is wrong"
 wordsOf ValueOutOfRange = ascii "a base or history value is not within -4 to 4"
 wordsOf InvalidAllocation = ascii "a step count or LFE allocation that the head does not admit"
 wordsOf UndefinedCentre = ascii "the centre code is 2, which has no meaning under reading 2"
+wordsOf InvalidDesk = ascii "the desk is above 7"

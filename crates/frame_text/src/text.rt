@@ -51,10 +51,14 @@ pub fn words_of(e: McError) -> Text
         McError::MlLayer3Unsupported => text_of(b"the header's Layer III flag is set"),
         McError::ReservedScalefactor => text_of(b"a scalefactor index is 63, which is reserved"),
         McError::ConfigChanged => {
-            text_of(b"the layout has another number of channels than before")
+            text_of(
+                b"the layout, or under reading 1 its number of channels, is another than before",
+            )
         }
         McError::InvalidArgument => {
-            text_of(b"a bit count, rate, LFE allocation, base step count or layout count is wrong")
+            text_of(
+                b"a bit count, reading, rate, LFE allocation, base step count or layout is wrong",
+            )
         }
         McError::ValueOutOfRange => text_of(b"a base or history value is not within -4 to 4"),
         McError::InvalidAllocation => {
@@ -63,5 +67,6 @@ pub fn words_of(e: McError) -> Text
         McError::UndefinedCentre => {
             text_of(b"the centre code is 2, which has no meaning under reading 2")
         }
+        McError::InvalidDesk => text_of(b"the desk is above 7"),
     }
 }

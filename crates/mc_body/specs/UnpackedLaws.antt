@@ -33,7 +33,8 @@ use Rattle.mc_state.specs.declared.McAnswer.the-variants.{Accepted, Refused}
 use Rattle.mc_state.specs.declared.McDecodeState.{McDecodeState}
 use Rattle.mc_state.specs.Held.{channelsBy, layoutFor, followsBy, follows, layoutAfter}
 use Rattle.mc_state.specs.HeldLaws.{layout-small}
-use Rattle.mc_state.specs.Frame.{Buffers, verdictUnpacked, answerOf, written, buffersOf, oneMore, stateOf, afterUnpacked}
+use Rattle.mc_state.specs.Desk.{tallied}
+use Rattle.mc_state.specs.Frame.{Buffers, verdictUnpacked, answerOf, written, buffersOf, stateOf, afterUnpacked}
 use Rattle.mc_state.specs.Answer.{buffersFrom, afterOf}
 use Rattle.mc_state.specs.Long.{Long, Delayed}
 use Rattle.mc_body.specs.WriteLaws.{delayed}
@@ -122,11 +123,11 @@ module _ (s : McSettings) (payload : List ℕ) (bits : ℕ) (codes : PayloadCode
 
 -- ---- the three ways to end
 
-module _ (st : McDecodeState) (headUsed : ℕ) (base : Base) (w : Buffers) (s : McSettings) (payload : List ℕ) (bits : ℕ) (codes : PayloadCodes)
+module _ (st : McDecodeState) (desk headUsed : ℕ) (base : Base) (w : Buffers) (s : McSettings) (payload : List ℕ) (bits : ℕ) (codes : PayloadCodes)
     (o : Outcome.outcomeOf codes ≡ settledOf s payload bits) (s′ : McSettings) (es : s ≡ s′)
   where
     pub after-refused : (codes .cursor .err ≡ 0 → ⊥) → (e : McError) → refusalOf e ≡ plain (codes .cursor .err)
-        → afterOf (record { answer = Refused e; state = st }) w ≡ afterUnpacked st s′ headUsed payload bits base w
+        → afterOf (record { answer = Refused e; state = st }) w ≡ afterUnpacked st desk s′ headUsed payload bits base w
     unfolding afterUnpacked verdictUnpacked answerOf buffersOf stateOf
     after-refused z e ee = rw (← es, is-refused s payload bits codes o z, ee)
 
@@ -134,15 +135,15 @@ module _ (st : McDecodeState) (headUsed : ℕ) (base : Base) (w : Buffers) (s : 
         (eb : b ≡ followsBy (s .reading) (st .«layout_len») (st .layout) n own) where
       pub after-changed : not b ≡ true
           → afterOf (record { answer = Refused ConfigChanged; state = record { «pred_hist» = h; «layout_len» = st .«layout_len»; layout = st .layout; accepted = st .accepted } }) w
-          ≡ afterUnpacked st s′ headUsed payload bits base w
+          ≡ afterUnpacked st desk s′ headUsed payload bits base w
       unfolding afterUnpacked verdictUnpacked answerOf buffersOf stateOf follows
       after-changed t =
           let f : followsBy (s .reading) (st .«layout_len») (st .layout) (channels s) (layoutFor s) ≡ false = rw (← en, ← el, ← eb) (not-true b t) in
           rw (← es, is-accepted s payload bits codes o z, f, eh)
 
-      pub after-accepted : not b ≡ false → (k : ℕ) → k ≡ layoutAfter (s .reading) (st .layout) own → (a : ℕ) → a ≡ oneMore (st .accepted) → (w′ : Buffers) → w′ ≡ written s (Outcome.codesOf codes) base (st .«pred_hist»)
+      pub after-accepted : not b ≡ false → (k : ℕ) → k ≡ layoutAfter (s .reading) (st .layout) own → (a : List ℕ) → a ≡ tallied desk (st .accepted) → (w′ : Buffers) → w′ ≡ written s (Outcome.codesOf codes) base (st .«pred_hist»)
           → afterOf (record { answer = Accepted headUsed (codes .cursor .at); state = record { «pred_hist» = h; «layout_len» = n; layout = k; accepted = a } }) w′
-          ≡ afterUnpacked st s′ headUsed payload bits base w
+          ≡ afterUnpacked st desk s′ headUsed payload bits base w
       unfolding afterUnpacked verdictUnpacked answerOf buffersOf stateOf follows
       after-accepted t k ek a ea w′ ew =
           let f : followsBy (s .reading) (st .«layout_len») (st .layout) (channels s) (layoutFor s) ≡ true = rw (← en, ← el, ← eb) (not-false b t) in

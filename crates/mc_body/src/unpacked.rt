@@ -23,7 +23,7 @@ use mc_state::McDecodeState;
 use mc_state::channel_count;
 use mc_state::layout_after;
 use mc_state::layout_follows;
-use mc_state::one_more;
+use mc_state::tallied;
 use mc_unpack::error_of;
 use mc_unpack::read_mc_payload;
 
@@ -53,6 +53,7 @@ pub fn unpacked_frame<'a>(
     payload: &[u8],
     payload_bits: usize,
     reading: u32,
+    desk: u32,
     rate: u32,
     base_channels: u8,
     raw_left: &'a [f64],
@@ -68,8 +69,8 @@ pub fn unpacked_frame<'a>(
     lfe: &mut [f64],
 ) -> Framed
     requires { ⌜ Long «base_channels» (baseFrom (now «raw_left») (now «raw_right») (now «scaled_left») (now «scaled_right»)) (buffersFrom (now raw) (now work) (now output) (now lfe)) ⌝ }
-    requires { ⌜ («lfe_allocation» ≤ 15) × (header .surround ≤ 3) ⌝ }
-    ensures { λ r. ⌜ afterOf r (buffersFrom (now (raw .exit)) (now (work .exit)) (now (output .exit)) (now (lfe .exit))) ≡ afterUnpacked state (settingsOf (loanBy reading rate «base_channels» header status «lfe_allocation» (now («nb_steps» .entry)) (now («base_nb_steps» .entry)))) «head_bits» (now (payload .entry)) «payload_bits» (baseFrom (now («raw_left» .entry)) (now («raw_right» .entry)) (now («scaled_left» .entry)) (now («scaled_right» .entry))) (buffersFrom (now (raw .entry)) (now (work .entry)) (now (output .entry)) (now (lfe .entry))) ⌝ }
+    requires { ⌜ («lfe_allocation» ≤ 15) × (header .surround ≤ 3) × (desk ≤ 7) ⌝ }
+    ensures { λ r. ⌜ afterOf r (buffersFrom (now (raw .exit)) (now (work .exit)) (now (output .exit)) (now (lfe .exit))) ≡ afterUnpacked state desk (settingsOf (loanBy reading rate «base_channels» header status «lfe_allocation» (now («nb_steps» .entry)) (now («base_nb_steps» .entry)))) «head_bits» (now (payload .entry)) «payload_bits» (baseFrom (now («raw_left» .entry)) (now («raw_right» .entry)) (now («scaled_left» .entry)) (now («scaled_right» .entry))) (buffersFrom (now (raw .entry)) (now (work .entry)) (now (output .entry)) (now (lfe .entry))) ⌝ }
 {
     let s = settings(
         reading,
@@ -126,7 +127,7 @@ pub fn unpacked_frame<'a>(
             pred_hist: next,
             layout_len: own.count,
             layout: layout_after(s.reading, layout, own.number),
-            accepted: one_more(state.accepted),
+            accepted: tallied(state.accepted, desk),
         },
     }
 }

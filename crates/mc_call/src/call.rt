@@ -17,6 +17,7 @@ pub fn decode_mc_frame<'s, 'h, 'p, 'a, 'b, 'n, 'r, 'w, 'o, 'l>(
     payload: &'p [u8],
     payload_bits: usize,
     reading: u32,
+    desk: u32,
     rate: u32,
     base_channels: u8,
     raw_left: &'a [f64],
@@ -31,7 +32,7 @@ pub fn decode_mc_frame<'s, 'h, 'p, 'a, 'b, 'n, 'r, 'w, 'o, 'l>(
     output: &'o mut [f64],
     lfe: &'l mut [f64],
 ) -> McAnswer
-    ensures { λ r. ⌜ afterBy r (now (state .exit)) (buffersFrom (now (raw .exit)) (now (work .exit)) (now (output .exit)) (now (lfe .exit))) ≡ frameOf (lentOf (now (head .entry)) «head_bits» (now (payload .entry)) «payload_bits» reading rate «base_channels» (baseFrom (now («raw_left» .entry)) (now («raw_right» .entry)) (now («scaled_left» .entry)) (now («scaled_right» .entry))) (now («base_nb_steps» .entry)) «lfe_allocation» (now («nb_steps» .entry))) (buffersFrom (now (raw .entry)) (now (work .entry)) (now (output .entry)) (now (lfe .entry))) (now (state .entry)) ⌝ }
+    ensures { λ r. ⌜ afterBy r (now (state .exit)) (buffersFrom (now (raw .exit)) (now (work .exit)) (now (output .exit)) (now (lfe .exit))) ≡ frameOf (lentOf (now (head .entry)) «head_bits» (now (payload .entry)) «payload_bits» reading desk rate «base_channels» (baseFrom (now («raw_left» .entry)) (now («raw_right» .entry)) (now («scaled_left» .entry)) (now («scaled_right» .entry))) (now («base_nb_steps» .entry)) «lfe_allocation» (now («nb_steps» .entry))) (buffersFrom (now (raw .entry)) (now (work .entry)) (now (output .entry)) (now (lfe .entry))) (now (state .entry)) ⌝ }
 {
     let t = frame_by_value(
         *state,
@@ -40,6 +41,7 @@ pub fn decode_mc_frame<'s, 'h, 'p, 'a, 'b, 'n, 'r, 'w, 'o, 'l>(
         payload,
         payload_bits,
         reading,
+        desk,
         rate,
         base_channels,
         raw_left,

@@ -1,5 +1,6 @@
 // What a frame call checks before it reads a bit.
 ghost use mathlib.Core.Path.{_≡_};
+ghost use Prim.Native.Nat.{ℕ};
 ghost use Rattle.mc_base.specs.Base.{baseFrom};
 ghost use Rattle.mc_state.specs.Answer.{lentOf};
 ghost use Rattle.mc_state.specs.Frame.{rightLength, valuesLong, roomFits, lentBy, allFit, valuesFit};
@@ -61,7 +62,7 @@ fn room_fits(raw: usize, work: usize, output: usize, lfe: usize) -> bool
     (raw == 3456) & ((work == 3456) & ((output == 5760) & (lfe == 12)))
 }
 
-// Whether all that is lent is as it has to be (refusal 6); the buffers come by their lengths.
+// Whether all that is lent is as it has to be (refusal 6), whatever the desk; the buffers come by their lengths.
 pub fn lent_fits(
     head: &[u8],
     head_bits: usize,
@@ -84,7 +85,7 @@ pub fn lent_fits(
     count: u8,
     layout: u8,
 ) -> bool
-    ensures { λ r. ⌜ r ≡ lentBy (lentOf (now (head .entry)) «head_bits» (now (payload .entry)) «payload_bits» reading rate «base_channels» (baseFrom (now («raw_left» .entry)) (now («raw_right» .entry)) (now («scaled_left» .entry)) (now («scaled_right» .entry))) (now («base_nb_steps» .entry)) «lfe_allocation» (now («nb_steps» .entry))) raw work output lfe count layout ⌝ }
+    ensures { λ r. ⌜ ((desk : ℕ) → r ≡ lentBy (lentOf (now (head .entry)) «head_bits» (now (payload .entry)) «payload_bits» reading desk rate «base_channels» (baseFrom (now («raw_left» .entry)) (now («raw_right» .entry)) (now («scaled_left» .entry)) (now («scaled_right» .entry))) (now («base_nb_steps» .entry)) «lfe_allocation» (now («nb_steps» .entry))) raw work output lfe count layout) ⌝ }
 {
     let strings = string_fits(head, head_bits);
     let payloads = string_fits(payload, payload_bits);

@@ -1,12 +1,12 @@
 -- What a tested loan brings, and that each way through a frame call leaves what the definition says.
 use mathlib.Core.Path.{_≡_, sym, _∙_}
 use mathlib.Core.Bool.{Bool, true, false, not}
-use Prim.Native.Nat.{ℕ, _≤_}
-use borrow.Author.Tests.{eqb-true, leb-true, not-true, not-false}
+use Prim.Native.Nat.{ℕ, _≤_, _<_}
+use borrow.Author.Tests.{eqb-true, leb-true, le-leb, lt-leb, not-true, not-false}
 use lib.Dec.{eqb, leb}
 use lib.ListN.{length}
 use Rattle.mc_error.specs.declared.McError.{McError}
-use Rattle.mc_error.specs.declared.McError.the-variants.{InvalidArgument, ValueOutOfRange}
+use Rattle.mc_error.specs.declared.McError.the-variants.{InvalidArgument, InvalidDesk, ValueOutOfRange}
 use Rattle.mc_head.specs.Answer
 use Rattle.mc_config.specs.Reading.{readingFits}
 use Rattle.mc_fields.specs.HeadYields.{header-fits}
@@ -72,15 +72,19 @@ module _ (l : Lent) (w : Buffers) (st : McDecodeState) (a : Bool) (ea : a ≡ le
           lfe = eqb-true _ 12 (g .1);
         }
 
-    module _ (b : Bool) (eb : b ≡ valuesFit (l .base) (st .«pred_hist»)) where
+    pub after-desk : 7 < l .desk → afterOf (record { answer = Refused InvalidDesk; state = st }) w ≡ frameOf l w st
+    unfolding frameOf verdictOf answerOf buffersOf stateOf
+    after-desk h = rw (← ea, not-false a ta, lt-leb (l .desk) 7 h)
+
+    module _ (low : l .desk ≤ 7) (b : Bool) (eb : b ≡ valuesFit (l .base) (st .«pred_hist»)) where
       pub after-values : not b ≡ true → afterOf (record { answer = Refused ValueOutOfRange; state = st }) w ≡ frameOf l w st
       unfolding frameOf verdictOf answerOf buffersOf stateOf
-      after-values t = rw (← ea, not-false a ta, ← eb, not-true b t)
+      after-values t = rw (← ea, not-false a ta, le-leb (l .desk) 7 low, ← eb, not-true b t)
 
       module _ (tb : not b ≡ false) (h : McHead) (eh : Answer.outcomeOf h ≡ headOf (l .reading) (l .head) (l .headBits) (l .baseChannels)) where
         pub after-head : (e : McError) → h .answer ≡ HeadRefused e → afterOf (record { answer = Refused e; state = st }) w ≡ frameOf l w st
         unfolding frameOf verdictOf verdictHead answerOf buffersOf stateOf
-        after-head e q = rw (← ea, not-false a ta, ← eb, not-false b tb, ← eh, q)
+        after-head e q = rw (← ea, not-false a ta, le-leb (l .desk) 7 low, ← eb, not-false b tb, ← eh, q)
 
         pub surround-low : (used : ℕ) → h .answer ≡ HeadAccepted used → h .header .surround ≤ 3
         surround-low used q =
@@ -88,7 +92,7 @@ module _ (l : Lent) (w : Buffers) (st : McDecodeState) (a : Bool) (ea : a ≡ le
             (lent-accepted (l .reading) (l .head) (l .headBits) (l .baseChannels) (h .header, (h .«check_word», h .status)) used (sym eh ∙ rw q)) .surround
 
         pub after-payload : (used : ℕ) → h .answer ≡ HeadAccepted used → (r : After)
-            → r ≡ afterUnpacked st (settingsOf (loanBy (l .reading) (l .rate) (l .baseChannels) (h .header) (h .status) (l .lfe) (l .steps) (l .baseSteps))) used (l .payload) (l .payloadBits) (l .base) w
+            → r ≡ afterUnpacked st (l .desk) (settingsOf (loanBy (l .reading) (l .rate) (l .baseChannels) (h .header) (h .status) (l .lfe) (l .steps) (l .baseSteps))) used (l .payload) (l .payloadBits) (l .base) w
             → r ≡ frameOf l w st
         unfolding frameOf verdictOf verdictHead afterUnpacked
-        after-payload used q r e = e ∙ rw (← ea, not-false a ta, ← eb, not-false b tb, ← eh, q)
+        after-payload used q r e = e ∙ rw (← ea, not-false a ta, le-leb (l .desk) 7 low, ← eb, not-false b tb, ← eh, q)

@@ -21,6 +21,7 @@ pub fn frame<'h, 'p, 'a, 'b, 'n, 'r, 'w, 'o, 'l>(
     payload: &'p [u8],
     payload_bits: usize,
     reading: u32,
+    desk: u32,
     rate: u32,
     base_channels: u8,
     raw_left: &'a [f64],
@@ -35,7 +36,7 @@ pub fn frame<'h, 'p, 'a, 'b, 'n, 'r, 'w, 'o, 'l>(
     output: &'o mut [f64],
     lfe: &'l mut [f64],
 ) -> Framed
-    ensures { λ r. ⌜ afterOf r (buffersFrom (now (raw .exit)) (now (work .exit)) (now (output .exit)) (now (lfe .exit))) ≡ frameOf (lentOf (now (head .entry)) «head_bits» (now (payload .entry)) «payload_bits» reading rate «base_channels» (baseFrom (now («raw_left» .entry)) (now («raw_right» .entry)) (now («scaled_left» .entry)) (now («scaled_right» .entry))) (now («base_nb_steps» .entry)) «lfe_allocation» (now («nb_steps» .entry))) (buffersFrom (now (raw .entry)) (now (work .entry)) (now (output .entry)) (now (lfe .entry))) state ⌝ }
+    ensures { λ r. ⌜ afterOf r (buffersFrom (now (raw .exit)) (now (work .exit)) (now (output .exit)) (now (lfe .exit))) ≡ frameOf (lentOf (now (head .entry)) «head_bits» (now (payload .entry)) «payload_bits» reading desk rate «base_channels» (baseFrom (now («raw_left» .entry)) (now («raw_right» .entry)) (now («scaled_left» .entry)) (now («scaled_right» .entry))) (now («base_nb_steps» .entry)) «lfe_allocation» (now («nb_steps» .entry))) (buffersFrom (now (raw .entry)) (now (work .entry)) (now (output .entry)) (now (lfe .entry))) state ⌝ }
 {
     if !lent_fits(
         head,
@@ -61,6 +62,12 @@ pub fn frame<'h, 'p, 'a, 'b, 'n, 'r, 'w, 'o, 'l>(
     ) {
         return Framed {
             answer: McAnswer::Refused(McError::InvalidArgument),
+            state,
+        };
+    }
+    if 7 < desk {
+        return Framed {
+            answer: McAnswer::Refused(McError::InvalidDesk),
             state,
         };
     }
@@ -94,6 +101,7 @@ pub fn frame<'h, 'p, 'a, 'b, 'n, 'r, 'w, 'o, 'l>(
                 payload,
                 payload_bits,
                 reading,
+                desk,
                 rate,
                 base_channels,
                 raw_left,

@@ -12,6 +12,7 @@ pub enum McError {
     ValueOutOfRange,
     InvalidAllocation,
     UndefinedCentre,
+    InvalidDesk,
 }
 
 impl McError {
@@ -29,6 +30,7 @@ impl McError {
             McError::ValueOutOfRange => 7,
             McError::InvalidAllocation => 8,
             McError::UndefinedCentre => 13,
+            McError::InvalidDesk => 14,
         }
     }
 
@@ -46,6 +48,7 @@ impl McError {
             McError::ValueOutOfRange => 0,
             McError::InvalidAllocation => 0,
             McError::UndefinedCentre => 0,
+            McError::InvalidDesk => 0,
         }
     }
 
@@ -63,6 +66,7 @@ impl McError {
             McError::ValueOutOfRange => 0,
             McError::InvalidAllocation => 0,
             McError::UndefinedCentre => 0,
+            McError::InvalidDesk => 0,
         }
     }
 }

@@ -1,8 +1,8 @@
-// The frame call's answer as one number, a fresh state in place of another, and a carried one: what the functions for C commit.
+// The frame call's answer as one number, and a fresh state, a carried or a converted one in place of another: what the functions for C commit.
 ghost use mathlib.Core.Path.{_≡_};
 ghost use Rattle.mc_base.specs.Base.{baseFrom};
 ghost use Rattle.mc_state.specs.Answer.{lentOf, buffersFrom, outcomeOf, packed, packedBy, packedOf, carryNumber, carryingBy};
-ghost use Rattle.mc_state.specs.Carry.{carriedOver};
+ghost use Rattle.mc_state.specs.Carry.{carriedOver, convertedOver};
 ghost use Rattle.mc_state.specs.Frame.{fresh, frameOf};
 use mc_decode::frame_by_value;
 use mc_state::CarryAnswer;
@@ -39,6 +39,7 @@ pub fn packed_frame<'h, 'p, 'a, 'b, 'n, 'r, 'w, 'o, 'l>(
     payload: &'p [u8],
     payload_bits: usize,
     reading: u32,
+    desk: u32,
     rate: u32,
     base_channels: u8,
     raw_left: &'a [f64],
@@ -53,7 +54,7 @@ pub fn packed_frame<'h, 'p, 'a, 'b, 'n, 'r, 'w, 'o, 'l>(
     output: &'o mut [f64],
     lfe: &'l mut [f64],
 ) -> PackedFrame
-    ensures { λ r. ⌜ packedBy (r .answer) (r .state) (buffersFrom (now (raw .exit)) (now (work .exit)) (now (output .exit)) (now (lfe .exit))) ≡ packedOf (frameOf (lentOf (now (head .entry)) «head_bits» (now (payload .entry)) «payload_bits» reading rate «base_channels» (baseFrom (now («raw_left» .entry)) (now («raw_right» .entry)) (now («scaled_left» .entry)) (now («scaled_right» .entry))) (now («base_nb_steps» .entry)) «lfe_allocation» (now («nb_steps» .entry))) (buffersFrom (now (raw .entry)) (now (work .entry)) (now (output .entry)) (now (lfe .entry))) state) ⌝ }
+    ensures { λ r. ⌜ packedBy (r .answer) (r .state) (buffersFrom (now (raw .exit)) (now (work .exit)) (now (output .exit)) (now (lfe .exit))) ≡ packedOf (frameOf (lentOf (now (head .entry)) «head_bits» (now (payload .entry)) «payload_bits» reading desk rate «base_channels» (baseFrom (now («raw_left» .entry)) (now («raw_right» .entry)) (now («scaled_left» .entry)) (now («scaled_right» .entry))) (now («base_nb_steps» .entry)) «lfe_allocation» (now («nb_steps» .entry))) (buffersFrom (now (raw .entry)) (now (work .entry)) (now (output .entry)) (now (lfe .entry))) state) ⌝ }
 {
     let t = frame_by_value(
         state,
@@ -62,6 +63,7 @@ pub fn packed_frame<'h, 'p, 'a, 'b, 'n, 'r, 'w, 'o, 'l>(
         payload,
         payload_bits,
         reading,
+        desk,
         rate,
         base_channels,
         raw_left,
@@ -119,5 +121,24 @@ pub fn carried(state: McDecodeState) -> Refreshed
     Refreshed {
         answer: number_of(answer),
         state: after,
+    }
+}
+
+// A state of before there were desks, by its fields, in place of another.
+pub fn converted<'h>(
+    state: McDecodeState,
+    pred_hist: &'h [f64],
+    layout_len: u8,
+    layout: u8,
+    accepted: u32,
+) -> Refreshed
+    ensures { λ r. ⌜ carryingBy (r .answer) (r .state) ≡ convertedOver (now («pred_hist» .entry)) «layout_len» layout accepted state ⌝ }
+{
+    let t = state.convert(pred_hist, layout_len, layout, accepted);
+    let answer = t.answer;
+    let taken = t.state;
+    Refreshed {
+        answer: number_of(answer),
+        state: taken,
     }
 }

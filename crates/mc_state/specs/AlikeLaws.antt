@@ -32,10 +32,10 @@ pub record SameBut (a b : After) : Type 0 where
   pub buffers : a .buffers ≡ b .buffers
   pub history : a .state .«pred_hist» ≡ b .state .«pred_hist»
   pub count : a .state .«layout_len» ≡ b .state .«layout_len»
-  pub tally : a .state .accepted ≡ b .state .accepted
+  pub tallies : a .state .accepted ≡ b .state .accepted
 
 pub same-but : (a : After) → SameBut a a
-same-but a = record { answer = refl; buffers = refl; history = refl; count = refl; tally = refl }
+same-but a = record { answer = refl; buffers = refl; history = refl; count = refl; tallies = refl }
 
 -- the layout is another than the one that is held
 pub record OtherLayout (st : McDecodeState) (a : After) : Type 0 where
@@ -109,23 +109,23 @@ module _ (s t : McSettings) (e : Alike s t) where
     written-alike c history =
         rw (record-alike s t e c, work-alike (recordOf t c) base history, output-alike (workOf t (recordOf t c) base history))
 
-    module _ (st : McDecodeState) (headUsed : ℕ) (w : Buffers) where
+    module _ (st : McDecodeState) (desk headUsed : ℕ) (w : Buffers) where
       verdict-alike : (c : Codes) (used : ℕ) (b : Bool)
-          → SameBut (afterVerdict (cond b (frame s c headUsed used) (changed s)) base w st) (afterVerdict (cond b (frame t c headUsed used) (changed t)) base w st)
+          → SameBut (afterVerdict (cond b (frame s c headUsed used) (changed s)) desk base w st) (afterVerdict (cond b (frame t c headUsed used) (changed t)) desk base w st)
       unfolding answerOf buffersOf stateOf
-      verdict-alike c used true = record { answer = refl; buffers = written-alike c (st .«pred_hist»); history = history-alike; count = channels-alike; tally = refl }
-      verdict-alike c used false = record { answer = refl; buffers = refl; history = history-alike; count = refl; tally = refl }
+      verdict-alike c used true = record { answer = refl; buffers = written-alike c (st .«pred_hist»); history = history-alike; count = channels-alike; tallies = refl }
+      verdict-alike c used false = record { answer = refl; buffers = refl; history = history-alike; count = refl; tallies = refl }
 
       -- if t is under reading 1, s gives the same frame, or its layout is another than the one that is held
       module _ (fits : heldFits (st .«layout_len») (st .layout) ≡ true) (low : s .header .surround ≤ 3) (first : t .reading ≡ 1) where
         verdict-judged : (o : Outcome Codes)
-            → Judged st (afterVerdict (verdictUnpacked st s headUsed o) base w st) (afterVerdict (verdictUnpacked st t headUsed o) base w st)
+            → Judged st (afterVerdict (verdictUnpacked st s headUsed o) desk base w st) (afterVerdict (verdictUnpacked st t headUsed o) desk base w st)
         unfolding verdictUnpacked answerOf
         verdict-judged (refused x) = inl (same-but _)
         verdict-judged (accepted c used) = go (follows (st .«layout_len») (st .layout) s) (follows (st .«layout_len») (st .layout) t) refl refl
           where
             go : (b d : Bool) → follows (st .«layout_len») (st .layout) s ≡ b → follows (st .«layout_len») (st .layout) t ≡ d
-                → Judged st (afterVerdict (cond b (frame s c headUsed used) (changed s)) base w st) (afterVerdict (cond d (frame t c headUsed used) (changed t)) base w st)
+                → Judged st (afterVerdict (cond b (frame s c headUsed used) (changed s)) desk base w st) (afterVerdict (cond d (frame t c headUsed used) (changed t)) desk base w st)
             go true true p q = inl (verdict-alike c used true)
             go false false p q = inl (verdict-alike c used false)
             go true false p q =
@@ -137,6 +137,6 @@ module _ (s t : McSettings) (e : Alike s t) where
                   answer = refl;
                 })
 
-        pub frame-judged : (payload : List ℕ) (bits : ℕ) → Judged st (afterUnpacked st s headUsed payload bits base w) (afterUnpacked st t headUsed payload bits base w)
+        pub frame-judged : (payload : List ℕ) (bits : ℕ) → Judged st (afterUnpacked st desk s headUsed payload bits base w) (afterUnpacked st desk t headUsed payload bits base w)
         unfolding afterUnpacked
         frame-judged payload bits = rw (settled-alike payload bits) (verdict-judged (settledOf t payload bits))

@@ -14,14 +14,15 @@ use Rattle.mc_state.specs.declared.McDecodeState.{McDecodeState}
 use Rattle.mc_state.specs.Carry.{Carrying}
 use Rattle.mc_state.specs.Frame.{Lent, Buffers, After}
 
-abbrev pub lentOf : List ℕ → ℕ → List ℕ → ℕ → ℕ → ℕ → ℕ → Base → List ℕ → ℕ → List ℕ → Lent
-lentOf head headBits payload payloadBits reading rate baseChannels base baseSteps lfe steps =
+abbrev pub lentOf : List ℕ → ℕ → List ℕ → ℕ → ℕ → ℕ → ℕ → ℕ → Base → List ℕ → ℕ → List ℕ → Lent
+lentOf head headBits payload payloadBits reading desk rate baseChannels base baseSteps lfe steps =
     record {
       head = head;
       headBits = headBits;
       payload = payload;
       payloadBits = payloadBits;
       reading = reading;
+      desk = desk;
       rate = rate;
       baseChannels = baseChannels;
       base = base;
@@ -44,7 +45,7 @@ afterBy answer state w = record { answer = outcomeOf answer; buffers = w; state 
 abbrev pub afterOf : Framed → Buffers → After
 afterOf r w = afterBy (r .answer) (r .state) w
 
--- ---- carrying
+-- ---- carrying and conversion
 
 -- 0, or document 01's number
 abbrev pub carryNumber : CarryAnswer → ℕ

@@ -17,7 +17,8 @@ use Rattle.mc_output.specs.Output.{channels}
 use Rattle.mc_history.specs.History.{historyOf}
 use Rattle.mc_state.specs.declared.McDecodeState.{McDecodeState}
 use Rattle.mc_state.specs.Held.{layoutFor, follows, layoutAfter}
-use Rattle.mc_state.specs.Frame.{Lent, Buffers, After, settingsFor, written, oneMore, frameOf}
+use Rattle.mc_state.specs.Desk.{deskFits, tallied}
+use Rattle.mc_state.specs.Frame.{Lent, Buffers, After, settingsFor, written, frameOf}
 
 -- what was found in head and payload, and in how many bits of each
 pub record Found (l : Lent) (s : McSettings) (c : Codes) (headUsed used : ℕ) : Type 0 where
@@ -35,7 +36,7 @@ among (m ∷ more) n = eqb n m || among more n
 
 -- the numbers of the frame call's refusals
 abbrev pub frameNumbers : List ℕ
-frameNumbers = 1 ∷ 2 ∷ 3 ∷ 4 ∷ 5 ∷ 6 ∷ 7 ∷ 8 ∷ 13 ∷ []
+frameNumbers = 1 ∷ 2 ∷ 3 ∷ 4 ∷ 5 ∷ 6 ∷ 7 ∷ 8 ∷ 13 ∷ 14 ∷ []
 
 -- one of an entry's numbers; a group and a code under 2 alone
 pub record Numbered (numbers : List ℕ) (x : Refusal) : Type 0 where
@@ -52,7 +53,7 @@ pub record Stored (l : Lent) (st st′ : McDecodeState) : Type 0 where
   pub history : st′ .«pred_hist» ≡ historyOf settings (l .base)
   pub count : st′ .«layout_len» ≡ st .«layout_len»
   pub layout : st′ .layout ≡ st .layout
-  pub tally : st′ .accepted ≡ st .accepted
+  pub tallies : st′ .accepted ≡ st .accepted
 
 -- after refusal x the buffers are as they were, and so is the state, but that refusal 5 has stored the history
 pub record Left (x : Refusal) (l : Lent) (w : Buffers) (st : McDecodeState) (a : After) : Type 0 where
@@ -67,11 +68,12 @@ pub record Written (l : Lent) (st : McDecodeState) (headUsed used : ℕ) (a : Af
   pub codes : Codes
   pub found : Found l settings codes headUsed used
   pub allowed : follows (st .«layout_len») (st .layout) settings ≡ true
+  pub desk : deskFits (l .desk) ≡ true
   pub buffers : a .buffers ≡ written settings codes (l .base) (st .«pred_hist»)
   pub history : a .state .«pred_hist» ≡ historyOf settings (l .base)
   pub count : a .state .«layout_len» ≡ channels settings
   pub layout : a .state .layout ≡ layoutAfter (settings .reading) (st .layout) (layoutFor settings)
-  pub tally : a .state .accepted ≡ oneMore (st .accepted)
+  pub tallies : a .state .accepted ≡ tallied (l .desk) (st .accepted)
 
 abbrev pub RefusedLeaves : Type 0
 RefusedLeaves = (l : Lent) (w : Buffers) (st : McDecodeState) (x : Refusal) → frameOf l w st .answer ≡ refused x → Left x l w st (frameOf l w st)

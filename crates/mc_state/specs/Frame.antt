@@ -1,8 +1,8 @@
 -- One frame call: the refusal in document 01's order or the accepted frame, and what every buffer and the state hold afterwards.
 use mathlib.Core.Bool.{Bool, _&&_, cond}
 use mathlib.Core.List.{List}
-use Prim.Native.Nat.{ℕ, _+_}
-use lib.Dec.{eqb, ltb}
+use Prim.Native.Nat.{ℕ}
+use lib.Dec.{eqb}
 use lib.Ieee.{Float, nan, binary64, ofBits, neg, le}
 use lib.ListN.{length, getD, replicate}
 use Rattle.floats.specs.Binary64.{zero64}
@@ -21,6 +21,7 @@ use Rattle.mc_output.specs.Output.{workOf, outputOf, channels}
 use Rattle.mc_history.specs.History.{historyOf}
 use Rattle.mc_state.specs.declared.McDecodeState.{McDecodeState}
 use Rattle.mc_state.specs.Held.{layoutFor, heldFits, follows, layoutAfter}
+use Rattle.mc_state.specs.Desk.{deskFits, tallied}
 
 -- what a frame call is lent, beside the state
 pub record Lent : Type 0 where
@@ -30,6 +31,8 @@ pub record Lent : Type 0 where
   pub payloadBits : ℕ
   -- of the transfer guide, 1 or 2
   pub reading : ℕ
+  -- 0 to 7
+  pub desk : ℕ
   pub rate : ℕ
   pub baseChannels : ℕ
   pub base : Base
@@ -44,7 +47,7 @@ pub record Buffers : Type 0 where
   pub output : List Float
   pub lfe : List Float
 
--- ---- refusals 6 and 7
+-- ---- refusals 6, 14 and 7
 
 -- values of a second base channel
 abbrev pub rightLength : ℕ → ℕ
@@ -113,7 +116,9 @@ verdictHead l st (accepted (h, (word, status)) used) =
 unfoldable pub verdictOf : Lent → Buffers → McDecodeState → Verdict
 verdictOf l w st =
     cond (lentFits l w st)
+    (cond (deskFits (l .desk))
     (cond (valuesFit (l .base) (st .«pred_hist»)) (verdictHead l st (headOf (l .reading) (l .head) (l .headBits) (l .baseChannels))) (refusal (plain 7)))
+    (refusal (plain 14)))
     (refusal (plain 6))
 
 -- ---- what it leaves
@@ -137,20 +142,16 @@ buffersOf (refusal r) base history w = w
 buffersOf (changed s) base history w = w
 buffersOf (frame s c headUsed used) base history w = written s c base history
 
--- accepted frames stay at the top of 32 bits
-abbrev pub oneMore : ℕ → ℕ
-oneMore n = cond (ltb n 4294967295) (n + 1) 4294967295
-
 -- a refusal leaves the state as it was, but refusal 5 has stored the history
-unfoldable pub stateOf : Verdict → Base → McDecodeState → McDecodeState
-stateOf (refusal r) base st = st
-stateOf (changed s) base st = record { «pred_hist» = historyOf s base; «layout_len» = st .«layout_len»; layout = st .layout; accepted = st .accepted }
-stateOf (frame s c headUsed used) base st =
+unfoldable pub stateOf : Verdict → ℕ → Base → McDecodeState → McDecodeState
+stateOf (refusal r) desk base st = st
+stateOf (changed s) desk base st = record { «pred_hist» = historyOf s base; «layout_len» = st .«layout_len»; layout = st .layout; accepted = st .accepted }
+stateOf (frame s c headUsed used) desk base st =
     record {
       «pred_hist» = historyOf s base;
       «layout_len» = channels s;
       layout = layoutAfter (s .reading) (st .layout) (layoutFor s);
-      accepted = oneMore (st .accepted);
+      accepted = tallied desk (st .accepted);
     }
 
 -- the whole call
@@ -159,16 +160,16 @@ pub record After : Type 0 where
   pub buffers : Buffers
   pub state : McDecodeState
 
-abbrev pub afterVerdict : Verdict → Base → Buffers → McDecodeState → After
-afterVerdict v base w st = record { answer = answerOf v; buffers = buffersOf v base (st .«pred_hist») w; state = stateOf v base st }
+abbrev pub afterVerdict : Verdict → ℕ → Base → Buffers → McDecodeState → After
+afterVerdict v desk base w st = record { answer = answerOf v; buffers = buffersOf v base (st .«pred_hist») w; state = stateOf v desk base st }
 
 -- from the payload on
-unfoldable pub afterUnpacked : McDecodeState → McSettings → ℕ → List ℕ → ℕ → Base → Buffers → After
-afterUnpacked st s headUsed payload bits base w = afterVerdict (verdictUnpacked st s headUsed (settledOf s payload bits)) base w st
+unfoldable pub afterUnpacked : McDecodeState → ℕ → McSettings → ℕ → List ℕ → ℕ → Base → Buffers → After
+afterUnpacked st desk s headUsed payload bits base w = afterVerdict (verdictUnpacked st s headUsed (settledOf s payload bits)) desk base w st
 
 unfoldable pub frameOf : Lent → Buffers → McDecodeState → After
-frameOf l w st = afterVerdict (verdictOf l w st) (l .base) w st
+frameOf l w st = afterVerdict (verdictOf l w st) (l .desk) (l .base) w st
 
 -- a fresh state is all zero
 unfoldable pub fresh : McDecodeState
-fresh = record { «pred_hist» = replicate 576 zero64; «layout_len» = 0; layout = 0; accepted = 0 }
+fresh = record { «pred_hist» = replicate 576 zero64; «layout_len» = 0; layout = 0; accepted = replicate 8 0 }

@@ -1,5 +1,6 @@
 pub mod Held
 pub mod HeldLaws
+pub mod Desk
 pub mod Frame
 pub mod Carry
 pub mod Answer
@@ -8,6 +9,7 @@ pub mod Demand1
 pub mod Reel
 pub mod AlikeLaws
 pub mod ReadingLaws
+pub mod DeskLaws
 pub mod Long
 pub mod PackLaws
 pub mod Boundary

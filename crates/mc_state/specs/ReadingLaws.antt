@@ -22,7 +22,8 @@ use Rattle.mc_payload.specs.Alike.{Alike}
 use Rattle.mc_payload.specs.ReadingLaws.{alike-stereo, alike-mono}
 use Rattle.mc_state.specs.declared.McDecodeState.{McDecodeState}
 use Rattle.mc_state.specs.Held.{heldFits}
-use Rattle.mc_state.specs.Frame.{Lent, Buffers, After, refusal, valuesLong, roomFits, lentBy, lentFits, valuesFit, settingsFor, verdictHead, verdictOf, answerOf, buffersOf, stateOf, afterVerdict, afterUnpacked, frameOf}
+use Rattle.mc_state.specs.Desk.{deskFits}
+use Rattle.mc_state.specs.Frame.{Lent, Buffers, After, Verdict, refusal, valuesLong, roomFits, lentBy, lentFits, valuesFit, settingsFor, verdictHead, verdictOf, answerOf, buffersOf, stateOf, afterVerdict, afterUnpacked, frameOf}
 use Rattle.mc_state.specs.AlikeLaws.{Judged, same-but, frame-judged}
 
 -- refused so, and nothing is changed
@@ -35,7 +36,7 @@ module _ (l : Lent) (w : Buffers) (st : McDecodeState) where
   unfolding frameOf verdictOf answerOf buffersOf stateOf lentBy loanFits
   wrong-reading e = rw (e, and-false (stringFits (l .payload) (l .payloadBits)), and-false (stringFits (l .head) (l .headBits)))
 
-  module _ (fits : lentFits l w st ≡ true) (values : valuesFit (l .base) (st .«pred_hist») ≡ true) where
+  module _ (fits : lentFits l w st ≡ true) (desk : deskFits (l .desk) ≡ true) (values : valuesFit (l .base) (st .«pred_hist») ≡ true) where
     -- what may be lent to the frame call may be lent to the head
     head-lent : headFits (l .reading) (l .head) (l .headBits) (l .baseChannels) ≡ true
     unfolding lentBy loanFits headFits
@@ -51,7 +52,7 @@ module _ (l : Lent) (w : Buffers) (st : McDecodeState) where
     -- a head that is refused
     refused-head : (x : Refusal) → headOf (l .reading) (l .head) (l .headBits) (l .baseChannels) ≡ refused x → frameOf l w st ≡ stoppedBy x w st
     unfolding frameOf verdictOf verdictHead answerOf buffersOf stateOf
-    refused-head x e = rw (fits, values, e)
+    refused-head x e = rw (fits, desk, values, e)
 
     -- a header that is cut, before its centre code is looked at
     pub header-stops : (x : Refusal) → run mcHeader (l .head) (l .headBits) 0 ≡ refused x → frameOf l w st ≡ stoppedBy x w st
@@ -79,6 +80,7 @@ underFirst l head headBits =
       payload = l .payload;
       payloadBits = l .payloadBits;
       reading = 1;
+      desk = l .desk;
       rate = l .rate;
       baseChannels = l .baseChannels;
       base = l .base;
@@ -93,21 +95,26 @@ module _ (l : Lent) (w : Buffers) (st : McDecodeState) (head : List ℕ) (headBi
 
   -- what a call leaves, by the head that it has read
   abbrev found : Lent → Outcome (McHeader × (ℕ × McStatus)) → After
-  found k o = afterVerdict (verdictHead k st o) (l .base) w st
+  found k o = afterVerdict (verdictHead k st o) (l .desk) (l .base) w st
+
+  -- by the tests of what is lent
+  abbrev tested : Bool → Bool → Bool → Verdict → After
+  tested lent desk values v = afterVerdict (cond lent (cond desk (cond values v (refusal (plain 7))) (refusal (plain 14))) (refusal (plain 6))) (l .desk) (l .base) w st
 
   frames-same : lentFits l w st ≡ lentFits first w st
       → (lentFits first w st ≡ true → Judged st (found l (headOf (l .reading) (l .head) (l .headBits) (l .baseChannels))) (found first (headOf 1 head headBits (l .baseChannels))))
       → Judged st (frameOf l w st) (frameOf first w st)
   unfolding frameOf verdictOf
-  frames-same fits same = rw fits (go (lentFits first w st) (valuesFit (l .base) (st .«pred_hist»)) refl)
+  frames-same fits same = rw fits (go (lentFits first w st) (deskFits (l .desk)) (valuesFit (l .base) (st .«pred_hist»)) refl)
     where
-      go : (lent values : Bool) → lentFits first w st ≡ lent
+      go : (lent desk values : Bool) → lentFits first w st ≡ lent
           → Judged st
-          (afterVerdict (cond lent (cond values (verdictHead l st (headOf (l .reading) (l .head) (l .headBits) (l .baseChannels))) (refusal (plain 7))) (refusal (plain 6))) (l .base) w st)
-          (afterVerdict (cond lent (cond values (verdictHead first st (headOf 1 head headBits (l .baseChannels))) (refusal (plain 7))) (refusal (plain 6))) (l .base) w st)
-      go true true e = same e
-      go true false e = inl (same-but _)
-      go false values e = inl (same-but _)
+          (tested lent desk values (verdictHead l st (headOf (l .reading) (l .head) (l .headBits) (l .baseChannels))))
+          (tested lent desk values (verdictHead first st (headOf 1 head headBits (l .baseChannels))))
+      go true true true e = same e
+      go true true false e = inl (same-but _)
+      go true false values e = inl (same-but _)
+      go false desk values e = inl (same-but _)
 
   held-fits : lentFits first w st ≡ true → heldFits (st .«layout_len») (st .layout) ≡ true
   unfolding lentBy
@@ -128,7 +135,7 @@ module _ (l : Lent) (w : Buffers) (st : McDecodeState) (head : List ℕ) (headBi
       header-fits (l .reading) (l .baseChannels) (l .head) (l .headBits) 0 h word status used
       (lent-accepted (l .reading) (l .head) (l .headBits) (l .baseChannels) (h, (word, status)) used read) .surround
       in
-      frame-judged (settingsFor l h status) (settingsFor first h′ status) e (l .base) st used w (held-fits lent) low refl (l .payload) (l .payloadBits)
+      frame-judged (settingsFor l h status) (settingsFor first h′ status) e (l .base) st (l .desk) used w (held-fits lent) low refl (l .payload) (l .payloadBits)
 
   -- over one base channel reading 2 gives the frame whose head has centre code 1 in place of 3
   pub mono-frame : l .reading ≡ 2 → l .baseChannels ≡ 1 → (h : McHeader) (word word′ : ℕ) (status : McStatus) (used : ℕ)

@@ -3,14 +3,16 @@
 use mc_error::McError;
 
 mod carry;
+mod convert;
+mod desk;
 mod held;
 mod state;
 
+pub use desk::tallied;
 pub use held::channel_count;
 pub use held::held_fits;
 pub use held::layout_after;
 pub use held::layout_follows;
-pub use state::one_more;
 
 // What a decoder keeps from frame to frame.
 #[repr(C)]
@@ -21,8 +23,8 @@ pub struct McDecodeState {
     pub layout_len: u8,
     // their layout, 10 * front + surround code; 0 where only the count is known
     pub layout: u8,
-    // accepted frames; stays at its top
-    pub accepted: u32,
+    // accepted frames of each desk; each stays at its top
+    pub accepted: [u32; 8],
 }
 
 // The bits that head and payload use, or why the frame is refused.
@@ -40,7 +42,7 @@ pub struct Framed {
     pub state: McDecodeState,
 }
 
-// Whether a state was carried, or why not.
+// Whether a state was carried or converted, or why not.
 pub enum CarryAnswer {
     Carried,
     Refused(McError),

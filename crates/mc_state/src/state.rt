@@ -1,6 +1,6 @@
-// The state before the first frame, and what a frame makes of it.
+// The state before the first frame.
 ghost use mathlib.Core.Path.{_≡_};
-ghost use Rattle.mc_state.specs.Frame.{fresh, oneMore};
+ghost use Rattle.mc_state.specs.Frame.{fresh};
 use crate::McDecodeState;
 
 impl McDecodeState {
@@ -15,18 +15,7 @@ impl McDecodeState {
             pred_hist: [0.0; 576],
             layout_len: 0,
             layout: 0,
-            accepted: 0,
+            accepted: [0; 8],
         }
-    }
-}
-
-// The number of accepted frames after one more.
-pub fn one_more(accepted: u32) -> u32
-    ensures { λ r. ⌜ r ≡ oneMore accepted ⌝ }
-{
-    if accepted < 4294967295 {
-        accepted + 1
-    } else {
-        4294967295
     }
 }

@@ -11,6 +11,7 @@ use frame_text::words_of;
 use libc::STDOUT_FILENO;
 use mc_config::Layout;
 use mc_error::McError;
+use mc_state::CarryAnswer;
 
 fn put(s: &[u8]) {
     io::write_all(STDOUT_FILENO, s);
@@ -106,9 +107,8 @@ pub fn put_channels(layout: Layout, output: &[f64]) {
     }
 }
 
-pub fn put_refused(number: u64, e: McError) {
-    put_frame(number);
-    put(b"refused: ");
+// A refusal's number and words, to the end of the line.
+fn put_refusal(e: McError) {
     put_number(e.number() as u64);
     put(b", ");
     put_text(words_of(e));
@@ -122,6 +122,24 @@ pub fn put_refused(number: u64, e: McError) {
     put(b"\n");
 }
 
+pub fn put_refused(number: u64, e: McError) {
+    put_frame(number);
+    put(b"refused: ");
+    put_refusal(e);
+}
+
+// Whether the state was carried before a frame.
+pub fn put_carried(number: u64, answer: CarryAnswer) {
+    put_frame(number);
+    match answer {
+        CarryAnswer::Carried => put(b"the state is carried over\n"),
+        CarryAnswer::Refused(e) => {
+            put(b"the state is not carried over: ");
+            put_refusal(e);
+        }
+    }
+}
+
 pub fn put_totals(accepted: u32, refused: u32) {
     put_number(accepted as u64 + refused as u64);
     put(b" frames read, ");
@@ -131,10 +149,25 @@ pub fn put_totals(accepted: u32, refused: u32) {
     put(b" refused\n");
 }
 
+// The tally of each desk that frames name.
+pub fn put_tallies(desks: [u8; 8], tallies: [u32; 8]) {
+    for d in 0usize..8 {
+        if desks[d] == 1 {
+            put(b"desk ");
+            put_number(d as u64);
+            put(b": tally ");
+            put_number(tallies[d] as u64);
+            put(b"\n");
+        }
+    }
+}
+
 pub fn put_opening_fault(fault: u32) {
     match fault {
         frame_file::EMPTY => put(b"bad file: the input is empty\n"),
-        frame_file::OTHER_LETTERS => put(b"bad file: it does not begin with MCFRAMES\n"),
+        frame_file::OTHER_LETTERS => put(
+            b"bad file: it does not begin with MCFRAMES or MCFRAME2\n",
+        ),
         frame_file::OPENING_CUT => put(b"bad file: it ends inside the opening\n"),
         _ => put(b"bad file: byte 12, which says whether a state follows, is neither 0 nor 1\n"),
     }
@@ -142,6 +175,12 @@ pub fn put_opening_fault(fault: u32) {
 
 pub fn put_state_cut() {
     put(b"bad file: it ends inside the state\n");
+}
+
+pub fn put_state_refused(count: u8) {
+    put(b"bad file: its state has layout count ");
+    put_number(count as u64);
+    put(b", above 5\n");
 }
 
 pub fn put_left_over() {
@@ -161,6 +200,16 @@ pub fn put_frame_cut(number: u64) {
 pub fn put_fault(number: u64, n: Numbers, fault: u32) {
     put_bad_frame(number);
     match fault {
+        frame_file::CALL => {
+            put(b" is for call ");
+            put_number(n.call as u64);
+            put(b", which is not known\n");
+        }
+        frame_file::CARRIED => {
+            put(b" has ");
+            put_number(n.carried as u64);
+            put(b" for whether the state is carried, which is neither 0 nor 1\n");
+        }
         frame_file::BASE_CHANNELS => {
             put(b" has base channel count ");
             put_number(n.base_channels as u64);

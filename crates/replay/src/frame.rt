@@ -17,9 +17,6 @@ use replay_list::number32_at;
 use replay_list::second_lent;
 use replay_list::start;
 
-// The list is of frames under reading 1.
-const READING: u32 = 1;
-
 // Rebuilds the base values and the step counts in the slices that are lent for them.
 fn rebuild<'a, 'b, 'c, 'd, 'e, 'f>(
     opening: &[u8],
@@ -68,6 +65,8 @@ fn call<'a>(
     let before = start(state, opening);
     let head_bits = number_at(opening, 4, 4) as usize;
     let payload_bits = number_at(opening, 8, 4) as usize;
+    let reading = number32_at(opening, 88);
+    let desk = number32_at(opening, 92);
     let rate = number32_at(opening, 12);
     let base_channels = byte_at(opening, 16);
     let lfe_allocation = byte_at(opening, 18);
@@ -77,7 +76,8 @@ fn call<'a>(
         head_bits,
         payload,
         payload_bits,
-        READING,
+        reading,
+        desk,
         rate,
         base_channels,
         raw_left,

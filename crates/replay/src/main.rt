@@ -163,7 +163,7 @@ fn replay(count: u64) -> bool {
     let mut state = McDecodeState::new();
     let mut tally = Tally {
         frames: 0,
-        answers: [0; 9],
+        answers: [0; 15],
         values: 0,
         different: 0,
     };

@@ -52,6 +52,8 @@ pub fn totals(t: Tally) {
     refused(6, answers[6]);
     refused(7, answers[7]);
     refused(8, answers[8]);
+    refused(13, answers[13]);
+    refused(14, answers[14]);
     counted(b"values in the hashes: ", t.values);
     if t.different == 0 {
         line(b"no difference");

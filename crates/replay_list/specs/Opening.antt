@@ -4,7 +4,7 @@ use mathlib.Core.List.{List, [], _∷_}
 use Prim.Native.Nat.{ℕ, _+_, _*_, _%_}
 use lib.Dec.{eqb}
 use lib.Ieee.{Float}
-use lib.ListN.{getD}
+use lib.ListN.{getD, replicate}
 use Rattle.encoding.specs.Encoding.{numberAt}
 use Rattle.fill.specs.Tab.{tab}
 use Rattle.mc_base.specs.Base.{baseFrom, Base}
@@ -37,7 +37,7 @@ unfoldable pub lentValues : List ℕ → ℕ → ℕ → ℕ → List Float
 lentValues opening before first n =
     withWild first (getD opening 21 0) (numberAt opening 22 2) (valuesAfter (numberAt opening 32 8) before n)
 
--- a new state, its history drawn after the base values, or the state before it
+-- a new state, its history drawn after the base values and each desk with the same tally, or the state before it
 unfoldable pub startOf : List ℕ → McDecodeState → McDecodeState
 startOf opening state =
     cond (eqb (getD opening 19 0) 1)
@@ -45,18 +45,14 @@ startOf opening state =
       «pred_hist» = lentValues opening (2304 + 2 * secondLent opening 1152) 4608 576;
       «layout_len» = getD opening 20 0;
       layout = 0;
-      accepted = number32At opening 24;
+      accepted = replicate 8 (number32At opening 24);
     }
     state
-
--- the list is of frames under reading 1
-abbrev pub listReading : ℕ
-listReading = 1
 
 -- what the frame call is lent, with the strings, the base and the step counts
 abbrev pub lentWith : List ℕ → List ℕ → List ℕ → Base → List ℕ → List ℕ → Lent
 lentWith opening head payload base baseSteps steps =
-    lentOf head (numberAt opening 4 4) payload (numberAt opening 8 4) listReading (number32At opening 12) (getD opening 16 0) base baseSteps (getD opening 18 0) steps
+    lentOf head (numberAt opening 4 4) payload (numberAt opening 8 4) (number32At opening 88) (number32At opening 92) (number32At opening 12) (getD opening 16 0) base baseSteps (getD opening 18 0) steps
 
 -- the same, with so many values and step counts in each slice: raw left, raw right, scaled left and scaled right are drawn in this order
 abbrev pub lentLong : List ℕ → List ℕ → List ℕ → ℕ → ℕ → ℕ → ℕ → ℕ → ℕ → Lent

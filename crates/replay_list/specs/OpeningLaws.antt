@@ -5,7 +5,7 @@ use Prim.Native.Nat.{ℕ, zero, suc, _+_, _*_, _≤_, _<_}
 use native.Mathlib.Omega.{arith}
 use borrow.Author.Tests.{eq-eqb, ne-eqb}
 use lib.Ieee.{Float}
-use lib.ListN.{length, take, getD, length-take, List·getD-eq-default}
+use lib.ListN.{length, take, getD, replicate, length-take, List·getD-eq-default}
 use Rattle.fill.specs.InOrder.{Filling, ends-all}
 use Rattle.encoding.specs.Encoding.{numberAt}
 use Rattle.mc_base.specs.Base.{baseFrom, Base}
@@ -13,7 +13,7 @@ use Rattle.mc_state.specs.declared.Framed.{Framed}
 use Rattle.mc_state.specs.declared.McDecodeState.{McDecodeState}
 use Rattle.mc_state.specs.Answer.{lentOf, afterOf}
 use Rattle.mc_state.specs.Frame.{Buffers, frameOf}
-use Rattle.replay_list.specs.Opening.{number32At, secondLent, stepCounts, stepsOf, stepsFrom, lentValues, startOf, listReading, lentWith, lentLong, lentIn}
+use Rattle.replay_list.specs.Opening.{number32At, secondLent, stepCounts, stepsOf, stepsFrom, lentValues, startOf, lentWith, lentLong, lentIn}
 use Rattle.replay_list.specs.Values.{valuesAfter, withWild}
 
 -- within a list the value past the end is no matter
@@ -46,9 +46,9 @@ module _ (opening : List ℕ) where
   unfolding startOf
   start-goes-on b state e q = simp (ne-eqb (getD opening 19 0) 1 (λ h. q (e ∙ h)))
 
-  pub start-anew : (b second layout accepted : ℕ) (history : List Float) (state : McDecodeState)
-      → b ≡ getD opening 19 0 → b ≡ 1 → second ≡ secondLent opening 1152 → history ≡ lentValues opening (2304 + 2 * second) 4608 576 → layout ≡ getD opening 20 0 → accepted ≡ number32At opening 24
-      → record { «pred_hist» = history; «layout_len» = layout; layout = 0; accepted = accepted } ≡ startOf opening state
+  pub start-anew : (b second layout tally : ℕ) (history : List Float) (state : McDecodeState)
+      → b ≡ getD opening 19 0 → b ≡ 1 → second ≡ secondLent opening 1152 → history ≡ lentValues opening (2304 + 2 * second) 4608 576 → layout ≡ getD opening 20 0 → tally ≡ number32At opening 24
+      → record { «pred_hist» = history; «layout_len» = layout; layout = 0; accepted = replicate 8 tally } ≡ startOf opening state
   unfolding startOf
   start-anew b second layout accepted history state e q es eh el ea =
       simp (eq-eqb (getD opening 19 0) 1 (sym e ∙ q)) (rw (eh, el, ea, es))
@@ -65,11 +65,11 @@ taken s m x xs h e q = simp length-take (omega arith)
 
 module _ (opening head payload : List ℕ) (r : Framed) (before after : Buffers) (state : McDecodeState) where
   -- the frame call with the numbers that were read
-  pub called : (headBits payloadBits rate channels lfe : ℕ) (start : McDecodeState) (base : Base) (baseSteps steps : List ℕ)
-      → start ≡ startOf opening state → headBits ≡ numberAt opening 4 4 → payloadBits ≡ numberAt opening 8 4 → rate ≡ number32At opening 12 → channels ≡ getD opening 16 0 → lfe ≡ getD opening 18 0
-      → afterOf r after ≡ frameOf (lentOf head headBits payload payloadBits listReading rate channels base baseSteps lfe steps) before start
+  pub called : (headBits payloadBits reading desk rate channels lfe : ℕ) (start : McDecodeState) (base : Base) (baseSteps steps : List ℕ)
+      → start ≡ startOf opening state → headBits ≡ numberAt opening 4 4 → payloadBits ≡ numberAt opening 8 4 → reading ≡ number32At opening 88 → desk ≡ number32At opening 92 → rate ≡ number32At opening 12 → channels ≡ getD opening 16 0 → lfe ≡ getD opening 18 0
+      → afterOf r after ≡ frameOf (lentOf head headBits payload payloadBits reading desk rate channels base baseSteps lfe steps) before start
       → afterOf r after ≡ frameOf (lentWith opening head payload base baseSteps steps) before (startOf opening state)
-  called headBits payloadBits rate channels lfe start base baseSteps steps e a b c d f q = q ∙ (rw (e, a, b, c, d, f))
+  called headBits payloadBits reading desk rate channels lfe start base baseSteps steps e a b g h c d f q = q ∙ (rw (e, a, b, g, h, c, d, f))
 
   -- with the slices that were rebuilt
   pub rebuilt : (n1 n2 n3 n4 n5 n6 : ℕ) (rawLeft rawRight scaledLeft scaledRight : List Float) (baseSteps steps : List ℕ)

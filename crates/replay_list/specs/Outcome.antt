@@ -1,7 +1,7 @@
 -- What is compared of a frame: six numbers, and the counts. Definitions only.
 use mathlib.Core.Bool.{Bool, cond, not}
 use mathlib.Core.List.{List}
-use Prim.Native.Nat.{ℕ, _+_, _%_}
+use Prim.Native.Nat.{ℕ, zero, suc, _+_, _%_}
 use lib.Dec.{eqb, leb}
 use lib.Ieee.{Float}
 use lib.ListN.{getD, set}
@@ -17,8 +17,13 @@ use Rattle.replay_list.specs.declared.tally.Tally.{Tally}
 abbrev pub hashOf : List Float → ℕ
 hashOf xs = hashFloats 14695981039346656037 xs
 
+-- the hash h, the first n numbers more
+unfoldable pub hashNumbers : ℕ → List ℕ → ℕ → ℕ
+hashNumbers h xs zero = h
+hashNumbers h xs (suc n) = hashNumber (hashNumbers h xs n) (getD xs n 0)
+
 unfoldable pub stateHash : McDecodeState → ℕ
-stateHash s = hashNumber (hashNumber (hashNumber (hashOf (s .«pred_hist»)) (s .«layout_len»)) (s .layout)) (s .accepted)
+stateHash s = hashNumbers (hashNumber (hashNumber (hashOf (s .«pred_hist»)) (s .«layout_len»)) (s .layout)) (s .accepted) 8
 
 -- what the frame call reached: its packed answer, and the hashes of the four buffers and of the state
 abbrev pub reachedOf : McAnswer → McDecodeState → List Float → List Float → List Float → List Float → Outcome
@@ -61,7 +66,7 @@ more n k = (n + k) % 18446744073709551616
 
 -- the counts by answer: the place 0 for acceptance, the others by the refusal's number
 abbrev pub answeredOf : List ℕ → ℕ → List ℕ
-answeredOf answers n = cond (leb 9 n) answers (set answers n (more (getD answers n 0) 1))
+answeredOf answers n = cond (leb 15 n) answers (set answers n (more (getD answers n 0) 1))
 
 abbrev pub talliedOf : Tally → ℕ → ℕ → Bool → Tally
 talliedOf t answer values different =

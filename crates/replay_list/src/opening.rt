@@ -100,11 +100,11 @@ pub fn start(state: McDecodeState, opening: &[u8]) -> McDecodeState
     let mut history = [0.0; 576];
     lend_values(&mut history, opening, before, 4608);
     let layout_len = byte_at(opening, 20);
-    let accepted = number32_at(opening, 24);
+    let tally = number32_at(opening, 24);
     McDecodeState {
         pred_hist: history,
         layout_len,
         layout: 0,
-        accepted,
+        accepted: [tally; 8],
     }
 }

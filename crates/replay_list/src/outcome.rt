@@ -3,7 +3,7 @@ ghost use mathlib.Core.Path.{_≡_};
 ghost use Prim.Native.Nat.{_+_};
 ghost use lib.ListN.{length};
 ghost use Rattle.mc_state.specs.Answer.{packed, outcomeOf};
-ghost use Rattle.replay_list.specs.Outcome.{hashOf, stateHash, listedOf, reachedOf, differencesOf};
+ghost use Rattle.replay_list.specs.Outcome.{hashOf, hashNumbers, stateHash, listedOf, reachedOf, differencesOf};
 use encoding::number_at;
 use hash::hash_floats;
 use hash::hash_number;
@@ -45,15 +45,27 @@ fn hash(xs: &[f64]) -> u64
     hash_floats(EMPTY_HASH, xs)
 }
 
-// The hash of the history, the layout count, the layout and the accepted frames.
+// The hash h, eight tallies more.
+fn hash_tallies(h: u64, tallies: [u32; 8]) -> u64
+    ensures { λ r. ⌜ r ≡ hashNumbers h tallies 8 ⌝ }
+{
+    let mut hash = h;
+    for k in 0usize..8 {
+        hash = hash_number(hash, tallies[k] as u64);
+    }
+    hash
+}
+
+// The hash of the history, the layout count, the layout and the tallies.
 fn hash_state(state: McDecodeState) -> u64
     ensures { λ r. ⌜ r ≡ stateHash state ⌝ }
 {
     let history = state.pred_hist;
+    let tallies = state.accepted;
     let h = hash(&history);
     let counted = hash_number(h, state.layout_len as u64);
     let laid = hash_number(counted, state.layout as u64);
-    hash_number(laid, state.accepted as u64)
+    hash_tallies(laid, tallies)
 }
 
 // How many floats those hashes are of.

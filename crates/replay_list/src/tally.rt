@@ -5,7 +5,7 @@ ghost use Rattle.replay_list.specs.Outcome.{answeredOf, talliedOf};
 pub struct Tally {
     pub frames: u64,
     // accepted frames, then those of each refusal by its number
-    pub answers: [u64; 9],
+    pub answers: [u64; 15],
     // f64 values that entered the hashes
     pub values: u64,
     // frames with a difference
@@ -13,10 +13,10 @@ pub struct Tally {
 }
 
 // One frame more with an answer of this number.
-fn answered(answers: [u64; 9], n: usize) -> [u64; 9]
+fn answered(answers: [u64; 15], n: usize) -> [u64; 15]
     ensures { λ r. ⌜ r ≡ answeredOf answers n ⌝ }
 {
-    if 9 <= n {
+    if 15 <= n {
         return answers;
     }
     let mut next = answers;

@@ -1,6 +1,7 @@
 //! Writes the list of frames and answers that the crate `replay` runs.
 
 use oracle::replay::{list, write};
+use std::collections::BTreeMap;
 use std::process::ExitCode;
 
 fn main() -> ExitCode {
@@ -14,11 +15,11 @@ fn main() -> ExitCode {
         eprintln!("replay_list: {path}: {error}");
         return ExitCode::FAILURE;
     }
-    let mut answers = [0; 9];
+    let mut answers = BTreeMap::new();
     for record in &records {
-        answers[(record.expected.answer & 0xFF) as usize] += 1;
+        *answers.entry(record.expected.answer & 0xFF).or_insert(0) += 1;
     }
     println!("{path}: {} frames, {} bytes", records.len(), bytes.len());
-    println!("accepted and refusals 1 to 8: {answers:?}");
+    println!("by refusal, 0 for accepted: {answers:?}");
     ExitCode::SUCCESS
 }

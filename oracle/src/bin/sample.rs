@@ -12,11 +12,12 @@ fn main() -> ExitCode {
         eprintln!("usage: sample FILE [SEED]");
         return ExitCode::from(2);
     };
-    let file = seed.and_then(Result::ok).map_or_else(reel, mixed);
-    if let Err(error) = std::fs::write(&path, file.write()) {
+    let seed = seed.and_then(Result::ok);
+    let bytes = seed.map_or_else(|| reel().write(), mixed);
+    if let Err(error) = std::fs::write(&path, &bytes) {
         eprintln!("sample: {path}: {error}");
         return ExitCode::FAILURE;
     }
-    print!("{}", lines(&file));
+    print!("{}", lines(&bytes));
     ExitCode::SUCCESS
 }

@@ -63,13 +63,16 @@ pub fn noise(random: &mut Random, input: &mut FrameInput, part: Part) {
 /// Readings of refusal 6, some with 1 or 2 in their lowest byte.
 pub const WRONG_READINGS: [u32; 6] = [0, 3, 257, 258, 65_537, u32::MAX];
 
-/// A loan of refusal 6; its reading stays.
+/// Desks of refusal 14, some with a right one in their lowest byte.
+pub const WRONG_DESKS: [u32; 6] = [8, 9, 255, 256, 257, u32::MAX];
+
+/// A loan of refusal 6; its reading and its desk stay.
 pub fn wrong_loan(random: &mut Random, input: &mut FrameInput, state: &mut State) {
     let part = random.pick(&[Part::Head, Part::Payload]);
     match random.below(7) {
         0 => input.sample_rate = random.pick(&[0, 22_050, 24_000, 44_101, 96_000]),
         1 => input.lfe_allocation = random.pick(&[16, 17, u32::MAX]),
-        2 => wrong_held(random, state),
+        2 => wrong_held(random, &mut state.count, &mut state.layout),
         3 => {
             let channel = random.below(input.base_channels as u32) as usize;
             input.base_nb_steps[channel][place(random, 32)] = unknown_steps(random);
@@ -91,16 +94,16 @@ pub fn other_layout(random: &mut Random, state: &mut State) {
     state.count = random.pick(&[own, own, own, any]);
 }
 
-/// A state of refusal 6: a count above 5, a layout that no header gives, or a count that is not its
-/// layout's.
-pub fn wrong_held(random: &mut Random, state: &mut State) {
+/// What a state of refusal 6 holds: a count above 5, a layout that no header gives, or a count that is
+/// not its layout's.
+pub fn wrong_held(random: &mut Random, count: &mut u32, layout: &mut u32) {
     match random.below(3) {
-        0 => state.count = random.pick(&[6, 7, 255]),
-        1 => state.layout = wrong_layout(random),
+        0 => *count = random.pick(&[6, 7, 255]),
+        1 => *layout = wrong_layout(random),
         _ => {
-            let layout = Layout::random(random);
-            state.layout = layout.number();
-            state.count = (layout.outputs() as u32 + 1 + random.below(5)) % 6;
+            let any = Layout::random(random);
+            *layout = any.number();
+            *count = (any.outputs() as u32 + 1 + random.below(5)) % 6;
         }
     }
 }
@@ -112,9 +115,9 @@ pub fn wrong_layout(random: &mut Random) -> u32 {
     random.pick(&[1, 2, 3, near, near, above])
 }
 
-/// Any floats in the history, one place in four: each kind of NaN, infinities, zeros and the rest.
-pub fn wild_history(random: &mut Random, state: &mut State) {
-    for value in &mut state.history {
+/// Any floats in a history, one place in four: each kind of NaN, infinities, zeros and the rest.
+pub fn wild_history(random: &mut Random, history: &mut [f64]) {
+    for value in history {
         if random.chance(1, 4) {
             *value = any_float(random);
         }

@@ -13,6 +13,7 @@ pub mod plan;
 pub mod random;
 pub mod shapes;
 pub mod spoil;
+pub mod state;
 pub mod writer;
 
 pub use plan::{Made, Plan, Source};

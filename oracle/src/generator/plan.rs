@@ -55,8 +55,7 @@ impl Plan {
             rest /= base;
             digit as u32
         };
-        let base_channels = 2 - digit(2) as usize;
-        let mut plan = Plan::plain(base_channels, digit(4), digit(4));
+        let mut plan = Plan::plain(2 - digit(2) as usize, digit(4), digit(4));
         plan.head.procedure = digit(4);
         plan.sample_rate = [44_100, 48_000, 32_000][digit(3) as usize];
         plan
@@ -235,7 +234,7 @@ impl Plan {
         }
     }
 
-    /// The frame as it is lent, under the plan's reading.
+    /// The frame as it is lent, under the plan's reading and for desk 0.
     pub fn input(&self) -> FrameInput {
         self.lent(&self.head_written(), &self.payload_written())
     }
@@ -248,6 +247,7 @@ impl Plan {
             payload: payload.bytes.clone(),
             payload_bits: payload.bits,
             reading: self.reading,
+            desk: 0,
             sample_rate: self.sample_rate,
             base_channels: self.base_channels,
             base_raw: self.base.raw.clone(),
@@ -282,7 +282,7 @@ impl Made {
         }
     }
 
-    /// The frame as it is lent, under the plan's reading.
+    /// The frame as it is lent, under the plan's reading and for desk 0.
     pub fn input(&self) -> FrameInput {
         self.plan.lent(&self.head, &self.payload)
     }

@@ -3,6 +3,7 @@
 use super::damage::{self, Part};
 use super::plan::Made;
 use super::random::Random;
+use super::state;
 use super::writer::{Field, Kind};
 use crate::input::FrameInput;
 
@@ -119,6 +120,14 @@ pub const ALLOCATION: Named<FrameInput> = ("wrong allocation", |random, made, in
 
 pub const WRONG_READING: Named<FrameInput> = ("wrong reading", |random, _, input| {
     all(|| input.reading = random.pick(&damage::WRONG_READINGS))
+});
+
+pub const OTHER_DESK: Named<FrameInput> = ("other desk", |random, _, input| {
+    all(|| input.desk = state::desk(random))
+});
+
+pub const WRONG_DESK: Named<FrameInput> = ("wrong desk", |random, _, input| {
+    all(|| input.desk = random.pick(&damage::WRONG_DESKS))
 });
 
 /// A change that every frame gives a hold for.

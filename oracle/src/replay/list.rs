@@ -4,6 +4,7 @@ use super::record::{Expected, Record};
 use super::spoil::SPOILS;
 use super::values::{buffer_hashes, state_hash};
 use crate::flat::packed;
+use crate::generator::state::desk;
 use crate::generator::{Made, Plan, Random, Source};
 use crate::scope::{Buffers, State, judge};
 use std::collections::BTreeSet;
@@ -46,20 +47,26 @@ impl List {
         self.records.push(record);
     }
 
+    /// The frame for any desk, under any reading that takes its centre code and its step counts.
     fn record(&mut self, frame: &Made) -> Record {
         let seed = self.random.bits64() | 1;
-        Record::of(&frame.plan, &frame.head, &frame.payload, seed)
+        let mut readings = frame.plan.readings();
+        readings.retain(|&reading| (reading, frame.plan.head.centre) != (2, 2));
+        Record {
+            reading: self.random.pick(&readings),
+            desk: desk(&mut self.random),
+            ..Record::of(&frame.plan, &frame.head, &frame.payload, seed)
+        }
     }
 
     /// The frame as it is. It starts a new state where that before it is no good for it, and at times
     /// anyway: a fresh one, or one within a stream.
     fn push_whole(&mut self, frame: &Made, anyway: bool) {
-        let count = frame.plan.layout().outputs() as u8;
         let mut record = self.record(frame);
-        let follows = [0, count.into()].contains(&self.state.count);
-        let fits = follows && self.state.history_in_range();
-        if anyway || !fits {
-            let starts = [(0, 0), (0, 5), (count, 1), (count, u32::MAX)];
+        if anyway || refusal_alone(&record, &self.state) != 0 {
+            let count = frame.plan.layout().outputs() as u8;
+            let top = u32::MAX;
+            let starts = [(0, 0), (0, 5), (count, 1), (count, top - 1), (count, top)];
             record.start = Some(self.random.pick(&starts));
         }
         self.push(record);
@@ -93,6 +100,7 @@ fn refusal_alone(record: &Record, state: &State) -> u64 {
 /// The frames of the list, the same in each run: one to three of each shape, ordered by the number of
 /// output channels so that states last, each followed by a spoiled one more often than not; then what
 /// predictors are left, and two of the longest. A frame without a head comes first, on a fresh state.
+/// Shapes are drawn under reading 2, which bars the fewest places.
 pub fn records() -> Vec<Record> {
     let mut list = List {
         random: Random::new(1),
@@ -126,12 +134,17 @@ pub fn records() -> Vec<Record> {
     list.records
 }
 
-/// Shapes by the number of output channels, those with two or three main channels as often.
+/// Shapes by the number of output channels, those with two or three main channels as often; then by rate
+/// and layout, so that some frames of a layout follow each other, and then some of another.
 fn shapes() -> Vec<(u64, u64)> {
-    let layout = |shape: u64| Plan::plain_of_shape(shape).layout();
-    let turns = |shape: u64| (0..layout(shape).main.max(1) as u64).map(move |turn| (shape, turn));
+    let plan = Plan::plain_of_shape;
+    let turns =
+        |shape: u64| (0..plan(shape).layout().main.max(1) as u64).map(move |turn| (shape, turn));
     let mut shapes: Vec<_> = (0..Plan::SHAPES).flat_map(turns).collect();
-    shapes.sort_by_key(|&(shape, turn)| (layout(shape).outputs(), turn));
+    shapes.sort_by_key(|&(shape, turn)| {
+        let (layout, rate) = (plan(shape).layout(), plan(shape).sample_rate);
+        (layout.outputs(), turn, rate, layout.number())
+    });
     shapes
 }
 
@@ -161,7 +174,7 @@ fn missing_predictors(seen: &mut BTreeSet<Feature>) -> Vec<Made> {
 /// Of the plans that are tried for a shape, the one that shows most that was not seen before.
 fn chosen(shape: u64, turn: u64, seen: &mut BTreeSet<Feature>) -> Made {
     let seeds = (0..TRIED).map(|k| 1000 * shape + 100 * turn + k);
-    let plans = seeds.map(|seed| Plan::of_shape(shape, seed));
+    let plans = seeds.map(|seed| Plan::of_shape_under(2, shape, seed));
     let frames: Vec<Made> = plans.map(Made::of).collect();
     let best = frames.into_iter().max_by_key(|frame| {
         let fresh = features(&frame.plan).difference(seen).count();

@@ -4,7 +4,7 @@ use super::BLOCK;
 use super::values::Values;
 use crate::generator::layout::STEPS;
 use crate::generator::{Plan, Written};
-use crate::input::{FrameInput, Slots};
+use crate::input::{DESKS, FrameInput, Slots};
 use crate::scope::State;
 
 /// The size of a frame's opening.
@@ -39,11 +39,13 @@ pub struct Record {
     /// Whether the second base channel is lent.
     pub right: bool,
     pub lfe_allocation: u8,
-    /// Layout count and accepted frames of a new state, whose layout is not known.
+    /// Layout count of a new state, whose layout is not known, and the tally of each of its desks.
     pub start: Option<(u8, u32)>,
     /// The kind, 0 for none, and the place of a wild value.
     pub wild: (u8, u16),
     pub seed: u64,
+    pub reading: u32,
+    pub desk: u32,
     /// Step counts by class: 0 none, 1 to 17 the classes, 18 a step count of 4.
     pub base_classes: [u8; 64],
     pub classes: [u8; 96],
@@ -71,7 +73,8 @@ fn wild_value(kind: u8) -> f64 {
 }
 
 impl Record {
-    /// An accepted frame that goes on from the state before it. Its base values come from the seed.
+    /// An accepted frame that goes on from the state before it, under the plan's reading and for desk 0.
+    /// Its base values come from the seed.
     pub fn of(plan: &Plan, head: &Written, payload: &Written, seed: u64) -> Record {
         let classes = |steps: &[u32], k: usize| steps.get(k).map_or(0, |&steps| class_of(steps));
         Record {
@@ -88,13 +91,15 @@ impl Record {
             start: None,
             wild: (0, 0),
             seed,
+            reading: plan.reading,
+            desk: 0,
             base_classes: std::array::from_fn(|k| classes(plan.base.steps.as_flattened(), k)),
             classes: std::array::from_fn(|k| classes(plan.payload.steps.as_flattened(), k)),
             expected: Expected::default(),
         }
     }
 
-    /// The frame as it is lent, under reading 1, and the state where it starts a new one.
+    /// The frame as it is lent, and the state where it starts a new one.
     pub fn lent(&self) -> (FrameInput, Option<State>) {
         let right = if self.right { 1152 } else { 0 };
         let history = if self.start.is_some() { 576 } else { 0 };
@@ -113,7 +118,8 @@ impl Record {
             head_bits: self.head_bits.into(),
             payload: resized(&self.payload, self.payload_len),
             payload_bits: self.payload_bits.into(),
-            reading: 1,
+            reading: self.reading,
+            desk: self.desk,
             sample_rate: self.rate,
             base_channels: self.base_channels.into(),
             base_raw: channels([raw_left, raw_right]),
@@ -122,19 +128,18 @@ impl Record {
             lfe_allocation: self.lfe_allocation.into(),
             nb_steps: std::array::from_fn(|row| steps(&self.classes, row)),
         };
-        let state = self.start.map(|(count, frames)| State {
+        let state = self.start.map(|(count, tally)| State {
             history,
             count: count.into(),
             layout: 0,
-            frames,
+            accepted: [tally; DESKS],
         });
         (input, state)
     }
 
     pub fn write(&self, bytes: &mut Vec<u8>) {
         let blocks = self.payload.len() / BLOCK;
-        let (count, frames) = self.start.unwrap_or_default();
-        let begin = bytes.len();
+        let (count, tally) = self.start.unwrap_or_default();
         bytes.extend(self.head_len.to_le_bytes());
         bytes.extend(self.payload_len.to_le_bytes());
         bytes.extend(self.head_bits.to_le_bytes());
@@ -143,7 +148,7 @@ impl Record {
         bytes.extend([self.base_channels, self.right.into(), self.lfe_allocation]);
         bytes.extend([self.start.is_some().into(), count, self.wild.0]);
         bytes.extend(self.wild.1.to_le_bytes());
-        bytes.extend(frames.to_le_bytes());
+        bytes.extend(tally.to_le_bytes());
         bytes.extend((blocks as u32).to_le_bytes());
         bytes.extend(self.seed.to_le_bytes());
         bytes.extend(self.expected.answer.to_le_bytes());
@@ -154,7 +159,8 @@ impl Record {
                 .flat_map(|hash| hash.to_le_bytes()),
         );
         bytes.extend(self.expected.state.to_le_bytes());
-        bytes.resize(begin + BASE_CLASSES, 0);
+        bytes.extend(self.reading.to_le_bytes());
+        bytes.extend(self.desk.to_le_bytes());
         bytes.extend(self.base_classes);
         bytes.extend(self.classes);
         bytes.extend(&self.head);
@@ -183,6 +189,8 @@ impl Record {
             start: (opening[19] == 1).then_some((opening[20], number(24, 4) as u32)),
             wild: (opening[21], number(22, 2) as u16),
             seed: number(32, 8),
+            reading: number(88, 4) as u32,
+            desk: number(92, 4) as u32,
             base_classes: opening[BASE_CLASSES..CLASSES].try_into().ok()?,
             classes: opening[CLASSES..HEAD].try_into().ok()?,
             expected: Expected {

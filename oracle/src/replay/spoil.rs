@@ -1,6 +1,7 @@
 //! Frames of the list that are refused, and frames at a bound that are not.
 
 use super::record::Record;
+use crate::generator::damage::{WRONG_DESKS, WRONG_READINGS};
 use crate::generator::writer::put;
 use crate::generator::{Kind, Made, Random, Source, Written};
 
@@ -8,8 +9,8 @@ use crate::generator::{Kind, Made, Random, Source, Written};
 pub type Spoil = fn(&mut Random, &Made, &mut Record) -> bool;
 
 /// The answer, 0 for acceptance, and the ways that lead to it together. Those of the last rows break
-/// two rules, and the answer is that of the first in document 01's order.
-pub const SPOILS: [(u64, &[Spoil]); 34] = [
+/// two rules, and the answer is that of the first in the order of refusals.
+pub const SPOILS: [(u64, &[Spoil]); 48] = [
     (0, &[longest_payload]),
     (0, &[bits_after_the_head]),
     (1, &[head_cut]),
@@ -19,7 +20,8 @@ pub const SPOILS: [(u64, &[Spoil]); 34] = [
     (2, &[unlisted_code]),
     (3, &[layer_three]),
     (4, &[reserved_scalefactor]),
-    (5, &[other_layout]),
+    (5, &[other_count]),
+    (5, &[under_reading_2]),
     (6, &[rate]),
     (6, &[base_count]),
     (6, &[other_base_count]),
@@ -30,12 +32,25 @@ pub const SPOILS: [(u64, &[Spoil]); 34] = [
     (6, &[payload_of_8193_bytes]),
     (6, &[base_steps]),
     (6, &[state_count]),
+    (6, &[reading]),
     (7, &[wild_base]),
     (7, &[wild_base, not_a_number]),
     (7, &[wild_history]),
     (8, &[allocation]),
     (8, &[lfe_without_lfe]),
+    (8, &[barred_under_reading_1]),
+    (13, &[undefined_centre]),
+    (14, &[desk]),
     (6, &[rate, wild_base]),
+    (6, &[rate, desk]),
+    (6, &[reading, desk]),
+    (14, &[desk, wild_base]),
+    (14, &[desk, head_cut]),
+    (14, &[desk, undefined_centre]),
+    (14, &[desk, other_count]),
+    (7, &[wild_base, undefined_centre]),
+    (1, &[undefined_centre, header_cut]),
+    (13, &[undefined_centre, header_alone]),
     (7, &[wild_base, head_cut]),
     (1, &[head_cut, allocation]),
     (2, &[unlisted_code, lfe_without_lfe]),
@@ -43,7 +58,7 @@ pub const SPOILS: [(u64, &[Spoil]); 34] = [
     (1, &[layer_three, scfsi_cut]),
     (3, &[layer_three, reserved_scalefactor]),
     (1, &[reserved_scalefactor_cut]),
-    (4, &[reserved_scalefactor, other_layout]),
+    (4, &[reserved_scalefactor, other_count]),
 ];
 
 fn longest_payload(_: &mut Random, _: &Made, record: &mut Record) -> bool {
@@ -134,10 +149,50 @@ fn scfsi_cut(random: &mut Random, frame: &Made, record: &mut Record) -> bool {
     })
 }
 
-fn other_layout(random: &mut Random, frame: &Made, record: &mut Record) -> bool {
+fn other_count(random: &mut Random, frame: &Made, record: &mut Record) -> bool {
     let count = 1 + random.below(5);
     record.start = Some((count as u8, 7));
     count as usize != frame.plan.layout().outputs()
+}
+
+/// Where the state holds another layout of the frame's count.
+fn under_reading_2(_: &mut Random, _: &Made, record: &mut Record) -> bool {
+    record.reading = 2;
+    true
+}
+
+fn barred_under_reading_1(_: &mut Random, frame: &Made, record: &mut Record) -> bool {
+    record.reading = 1;
+    frame.plan.barred_under(1)
+}
+
+/// Centre code 2 under reading 2.
+fn undefined_centre(random: &mut Random, frame: &Made, record: &mut Record) -> bool {
+    record.reading = 2;
+    pick(random, &frame.head, &[Kind::Centre]).is_some_and(|(at, width)| {
+        put(&mut record.head, at, width, 2);
+        true
+    })
+}
+
+fn header_alone(_: &mut Random, frame: &Made, record: &mut Record) -> bool {
+    record.head_bits = frame.plan.head.header_bits() as u32;
+    true
+}
+
+fn header_cut(random: &mut Random, frame: &Made, record: &mut Record) -> bool {
+    record.head_bits = random.below(frame.plan.head.header_bits() as u32);
+    true
+}
+
+fn reading(random: &mut Random, _: &Made, record: &mut Record) -> bool {
+    record.reading = random.pick(&WRONG_READINGS);
+    true
+}
+
+fn desk(random: &mut Random, _: &Made, record: &mut Record) -> bool {
+    record.desk = random.pick(&WRONG_DESKS);
+    true
 }
 
 fn rate(random: &mut Random, _: &Made, record: &mut Record) -> bool {

@@ -73,9 +73,11 @@ pub fn buffer_hashes(buffers: &Buffers) -> [u64; 4] {
     [raw, work, output, lfe].map(|values| Hash::new().floats(values).0)
 }
 
-/// The hash of a state: its history, its layout count, its layout and its accepted frames.
+/// The hash of a state: its history, its layout count, its layout and its tallies.
 pub fn state_hash(state: &State) -> u64 {
     let history = Hash::new().floats(&state.history);
-    let numbers = [state.count, state.layout, state.frames].map(u64::from);
-    numbers.into_iter().fold(history, Hash::number).0
+    let numbers = [state.count, state.layout]
+        .into_iter()
+        .chain(state.accepted);
+    numbers.map(u64::from).fold(history, Hash::number).0
 }

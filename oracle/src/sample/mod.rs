@@ -1,162 +1,140 @@
-//! Frame files (docs/FRAME_FILE.md), and what the program `mcread` prints of one, from the reference's
-//! values.
+//! Frame files (docs/FRAME_FILE.md) of both versions, and what the program `mcread` prints of one, from
+//! the reference's values.
 
+mod bad;
 mod mixed;
+mod read;
 mod reel;
 mod text;
 
 pub use mixed::mixed;
+pub use read::Fault;
 pub use reel::reel;
 pub use text::lines;
 
 use crate::flat::Flat;
-use crate::input::{FrameInput, Slots};
+use crate::input::FrameInput;
 use crate::scope::State;
+use read::Reader;
 
-/// The first bytes of a file.
-pub const NAME: &[u8; 8] = b"MCFRAMES";
+#[derive(Debug, Clone, Copy, PartialEq, Eq, Hash)]
+pub enum Version {
+    /// Names no reading, no desk and no layout, and carries nothing.
+    First,
+    Second,
+}
 
-/// A state, whose layout is not known, and the frames that follow on it.
+impl Version {
+    /// The first bytes of a file.
+    pub const fn name(self) -> &'static [u8; 8] {
+        match self {
+            Version::First => b"MCFRAMES",
+            Version::Second => b"MCFRAME2",
+        }
+    }
+
+    /// Where the numbers that both versions have begin among those of a frame.
+    const fn shared_at(self) -> usize {
+        match self {
+            Version::First => 0,
+            Version::Second => 10,
+        }
+    }
+}
+
+/// The call that a frame is for: the one that takes head and payload.
+const CALL: u8 = 1;
+
+/// A frame of a file.
+#[derive(Debug, Clone, PartialEq)]
+pub struct FileFrame {
+    /// Whether the state is carried before it.
+    pub carried: bool,
+    pub input: FrameInput,
+}
+
+/// A state and the frames that follow on it. In a file of the first version the state has no known layout
+/// and a tally of desk 0 alone, no frame is carried, and all are for desk 0 under reading 1.
 #[derive(Debug, Clone, PartialEq)]
 pub struct File {
+    pub version: Version,
     pub state: State,
-    pub frames: Vec<FrameInput>,
+    pub frames: Vec<FileFrame>,
 }
 
 impl File {
     /// The bytes of the file; a fresh state is left out.
     pub fn write(&self) -> Vec<u8> {
-        let mut out = NAME.to_vec();
+        let mut out = self.version.name().to_vec();
         out.extend((self.frames.len() as u32).to_le_bytes());
         out.push(u8::from(self.state != State::fresh()));
         if self.state != State::fresh() {
-            out.push(self.state.count as u8);
-            out.extend(self.state.frames.to_le_bytes());
-            write_values(&mut out, &self.state.history);
+            write_state(&mut out, self.version, &self.state);
         }
         for frame in &self.frames {
-            write_frame(&mut out, frame);
+            write_frame(&mut out, self.version, frame);
         }
         out
     }
 
-    /// The file of these bytes; none where they are no whole file.
-    pub fn read(bytes: &[u8]) -> Option<File> {
-        let mut rest = Bytes(bytes);
-        if rest.take(8)? != NAME {
-            return None;
+    /// The file of these bytes, or what is wrong with them.
+    pub fn read(bytes: &[u8]) -> Result<File, Fault> {
+        let mut reader = Reader::open(bytes)?;
+        let (version, state) = (reader.version, reader.state.clone());
+        let mut frames = vec![];
+        while let Some(frame) = reader.frame()? {
+            frames.push(frame);
         }
-        let (count, follows) = (rest.u32()?, rest.u8()?);
-        let state = match follows {
-            0 => State::fresh(),
-            1 => State {
-                count: u32::from(rest.u8()?),
-                layout: 0,
-                frames: rest.u32()?,
-                history: rest.values(576)?,
-            },
-            _ => return None,
-        };
-        let frames: Option<_> = (0..count).map(|_| rest.frame()).collect();
-        let frames = frames.filter(|_| rest.0.is_empty())?;
-        Some(File { state, frames })
+        Ok(File {
+            version,
+            state,
+            frames,
+        })
     }
+}
+
+fn write_state(out: &mut Vec<u8>, version: Version, state: &State) {
+    match version {
+        Version::First => {
+            out.push(state.count as u8);
+            out.extend(state.accepted[0].to_le_bytes());
+        }
+        Version::Second => {
+            out.extend(state.accepted.iter().flat_map(|tally| tally.to_le_bytes()));
+            out.extend([state.count as u8, state.layout as u8]);
+        }
+    }
+    write_values(out, &state.history);
 }
 
 fn write_values(out: &mut Vec<u8>, values: &[f64]) {
     out.extend(values.iter().flat_map(|v| v.to_bits().to_le_bytes()));
 }
 
-fn write_frame(out: &mut Vec<u8>, frame: &FrameInput) {
-    let flat = Flat::of(frame);
-    out.extend(frame.sample_rate.to_le_bytes());
-    out.push(frame.base_channels as u8);
-    out.push(frame.lfe_allocation as u8);
+fn write_frame(out: &mut Vec<u8>, version: Version, FileFrame { carried, input }: &FileFrame) {
+    let flat = Flat::of(input);
+    if version == Version::Second {
+        out.extend([CALL, u8::from(*carried)]);
+        out.extend(input.reading.to_le_bytes());
+        out.extend(input.desk.to_le_bytes());
+    }
+    out.extend(input.sample_rate.to_le_bytes());
+    out.push(input.base_channels as u8);
+    out.push(input.lfe_allocation as u8);
     for number in [
-        frame.head.len() as u32,
-        frame.head_bits as u32,
-        frame.payload.len() as u32,
-        frame.payload_bits as u32,
+        input.head.len() as u32,
+        input.head_bits as u32,
+        input.payload.len() as u32,
+        input.payload_bits as u32,
     ] {
         out.extend(number.to_le_bytes());
     }
     for steps in flat.base_nb_steps.iter().chain(&flat.nb_steps) {
         out.extend(steps.to_le_bytes());
     }
-    out.extend(&frame.head);
-    out.extend(&frame.payload);
+    out.extend(&input.head);
+    out.extend(&input.payload);
     for values in &flat.base {
         write_values(out, values);
-    }
-}
-
-/// What is left of a file.
-struct Bytes<'a>(&'a [u8]);
-
-impl<'a> Bytes<'a> {
-    fn take(&mut self, count: usize) -> Option<&'a [u8]> {
-        let (taken, rest) = self.0.split_at_checked(count)?;
-        self.0 = rest;
-        Some(taken)
-    }
-
-    fn u8(&mut self) -> Option<u8> {
-        Some(self.take(1)?[0])
-    }
-
-    fn u32(&mut self) -> Option<u32> {
-        Some(u32::from_le_bytes(self.take(4)?.try_into().ok()?))
-    }
-
-    fn values(&mut self, count: usize) -> Option<Vec<f64>> {
-        let bytes = self.take(8 * count)?.as_chunks::<8>().0;
-        Some(bytes.iter().map(|b| f64::from_le_bytes(*b)).collect())
-    }
-
-    fn steps(&mut self) -> Option<[u32; 32]> {
-        let mut steps = [0; 32];
-        for count in &mut steps {
-            *count = self.u32()?;
-        }
-        Some(steps)
-    }
-
-    /// One channel of the base.
-    fn slots(&mut self) -> Option<Slots> {
-        let values = self.values(1152)?;
-        Some(values.as_chunks::<32>().0.to_vec())
-    }
-
-    /// A frame. The file names no reading: it is 1.
-    fn frame(&mut self) -> Option<FrameInput> {
-        let (sample_rate, channels, lfe_allocation) = (self.u32()?, self.u8()?, self.u8()?);
-        let [head_len, head_bits, payload_len, payload_bits] =
-            [self.u32()?, self.u32()?, self.u32()?, self.u32()?];
-        if !matches!(channels, 1 | 2) || head_len > 8192 || payload_len > 8192 {
-            return None;
-        }
-        let mut base_nb_steps = [[0; 32]; 2];
-        for steps in &mut base_nb_steps[..usize::from(channels)] {
-            *steps = self.steps()?;
-        }
-        let nb_steps = [self.steps()?, self.steps()?, self.steps()?];
-        let head = self.take(head_len as usize)?.to_vec();
-        let payload = self.take(payload_len as usize)?.to_vec();
-        let base_raw = (0..channels).map(|_| self.slots()).collect::<Option<_>>()?;
-        let base_scaled = (0..channels).map(|_| self.slots()).collect::<Option<_>>()?;
-        Some(FrameInput {
-            head,
-            head_bits: u64::from(head_bits),
-            payload,
-            payload_bits: u64::from(payload_bits),
-            reading: 1,
-            sample_rate,
-            base_channels: usize::from(channels),
-            base_raw,
-            base_scaled,
-            base_nb_steps,
-            lfe_allocation: u32::from(lfe_allocation),
-            nb_steps,
-        })
     }
 }

@@ -1,27 +1,45 @@
-//! The sample: a reel of five channels, cut out of a stream.
+//! The sample: a reel of five channels, cut out of a stream, on which the reading changes.
 
-use super::File;
+use super::{File, FileFrame, Version};
 use crate::generator::damage::{Part, overwrite};
 use crate::generator::{Kind, Plan, Random, base};
 use crate::input::FrameInput;
 use crate::scope::State;
 
+/// Reading and desk of each frame.
+const LENT: [(u32, u32); 6] = [(1, 0), (1, 3), (1, 3), (2, 6), (2, 0), (2, 3)];
+
+/// The first frame under reading 2, before which the state is carried.
+const CHANGE: usize = 3;
+
 /// 3/2 at 48,000 Hz. Four frames are accepted, with prediction, crosstalk and LFE in each; the second
-/// has a reserved scalefactor and the fifth a crosstalk code that is not listed.
+/// has a reserved scalefactor and the fifth a crosstalk code that is not listed. The state holds 3/0 with
+/// a second programme, which has as many channels, so that it has to be carried before a frame under
+/// reading 2. Desk 6 has its tally at its top.
 pub fn reel() -> File {
-    let history = base::history(&mut Random::new(1));
     let state = State {
-        history,
+        history: base::history(&mut Random::new(1)),
         count: 5,
-        layout: 0,
-        frames: 100,
+        layout: 33,
+        accepted: [100, 0, 0, 41, 0, 7, u32::MAX, 0],
     };
-    let frames = (0..6).map(|k| match k {
-        1 => spoiled(k, Part::Payload, Kind::Scalefactor, 63),
-        4 => spoiled(k, Part::Head, Kind::Crosstalk, 15),
-        _ => plan(k).input(),
+    let frames = LENT.iter().enumerate().map(|(k, &(reading, desk))| {
+        let input = match k {
+            1 => spoiled(1, Part::Payload, Kind::Scalefactor, 63),
+            4 => spoiled(4, Part::Head, Kind::Crosstalk, 15),
+            _ => plan(k as u64).input(),
+        };
+        FileFrame {
+            carried: k == CHANGE,
+            input: FrameInput {
+                reading,
+                desk,
+                ..input
+            },
+        }
     });
     File {
+        version: Version::Second,
         state,
         frames: frames.collect(),
     }
@@ -30,8 +48,8 @@ pub fn reel() -> File {
 /// The first plan from this number on, by steps of 1000, that has all that the reel is to show.
 fn plan(number: u64) -> Plan {
     let shape = 2 + 8 * 2 + 32 * (number % 4) + 128;
-    let plans = (0..).map(|k| Plan::of_shape(shape, number + 1000 * k));
-    plans.into_iter().find(|plan| full(plan)).unwrap()
+    let mut plans = (0..).map(|k| Plan::of_shape(shape, number + 1000 * k));
+    plans.find(full).unwrap()
 }
 
 fn full(plan: &Plan) -> bool {

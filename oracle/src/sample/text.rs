@@ -1,35 +1,60 @@
 //! The lines of `mcread`, from the reference's values.
 
-use super::File;
+use super::read::{Fault, Reader};
+use crate::input::DESKS;
 use crate::mc::McChannel;
 use crate::output::FrameOutput;
 use crate::replay::values::Hash;
-use crate::scope::{Buffers, Refusal, judge};
+use crate::scope::{Buffers, Refusal, State, judge};
 use std::fmt::Write;
 
-/// What `mcread` prints of a file.
-pub fn lines(file: &File) -> String {
+/// What `mcread` prints of a file of these bytes.
+pub fn lines(bytes: &[u8]) -> String {
     let mut out = String::new();
-    let mut state = file.state.clone();
-    let mut accepted = 0;
-    for (k, input) in file.frames.iter().enumerate() {
-        write!(out, "frame {}: ", k + 1).unwrap();
+    if let Err(fault) = frames(&mut out, bytes) {
+        writeln!(out, "bad file: {fault}").unwrap();
+    }
+    out
+}
+
+/// The lines of all frames before a fault and, where there is none, the totals.
+fn frames(out: &mut String, bytes: &[u8]) -> Result<(), Fault> {
+    let mut reader = Reader::open(bytes)?;
+    let mut state = reader.state.clone();
+    let (mut read, mut accepted, mut named) = (0, 0, [false; DESKS]);
+    while let Some(frame) = reader.frame()? {
+        read += 1;
+        if frame.carried {
+            writeln!(out, "frame {read}: {}", carried(&mut state)).unwrap();
+        }
+        write!(out, "frame {read}: ").unwrap();
+        let input = &frame.input;
         match judge(input, &mut state) {
             Ok(frame) => {
                 accepted += 1;
-                accepted_lines(&mut out, &frame, input.lfe_allocation != 0);
+                accepted_lines(out, &frame, input.lfe_allocation != 0);
             }
             Err(refusal) => writeln!(out, "refused: {}", refused(&refusal)).unwrap(),
         }
+        if let Some(named) = named.get_mut(input.desk as usize) {
+            *named = true;
+        }
     }
-    let read = file.frames.len();
     let refused = read - accepted;
-    writeln!(
-        out,
-        "{read} frames read, {accepted} accepted, {refused} refused"
-    )
-    .unwrap();
-    out
+    let totals = format!("{read} frames read, {accepted} accepted, {refused} refused");
+    writeln!(out, "{totals}").unwrap();
+    for desk in (0..DESKS).filter(|desk| named[*desk]) {
+        writeln!(out, "desk {desk}: tally {}", state.accepted[desk]).unwrap();
+    }
+    Ok(())
+}
+
+/// Carries the state, and says so.
+fn carried(state: &mut State) -> String {
+    match state.carry() {
+        Ok(()) => "the state is carried over".to_string(),
+        Err(refusal) => format!("the state is not carried over: {}", refused(&refusal)),
+    }
 }
 
 fn accepted_lines(out: &mut String, frame: &FrameOutput, lfe: bool) {
@@ -91,10 +116,13 @@ fn refused(refusal: &Refusal) -> String {
         2 => "a crosstalk code is not listed",
         3 => "the header's Layer III flag is set",
         4 => "a scalefactor index is 63, which is reserved",
-        5 => "the layout has another number of channels than before",
-        6 => "a bit count, rate, LFE allocation, base step count or layout count is wrong",
+        5 => "the layout, or under reading 1 its number of channels, is another than before",
+        6 => "a bit count, reading, rate, LFE allocation, base step count or layout is wrong",
         7 => "a base or history value is not within -4 to 4",
-        _ => "a step count or LFE allocation that the head does not admit",
+        8 => "a step count or LFE allocation that the head does not admit",
+        13 => "the centre code is 2, which has no meaning under reading 2",
+        14 => "the desk is above 7",
+        other => unreachable!("the frame call does not say {other}"),
     };
     match refusal {
         Refusal {

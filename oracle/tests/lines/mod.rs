@@ -1,6 +1,9 @@
 //! Lines of the program `boundary`, each from what the reference, or `scope` beside it, answers.
 
+pub mod desks;
+
 use oracle::generator::Plan;
+use oracle::generator::state::Older;
 use oracle::input::Slots;
 use oracle::output::FrameOutput;
 use oracle::scope::{Refusal, State, judge};
@@ -65,8 +68,8 @@ fn numbers(state: &State) -> String {
         0 => String::new(),
         layout => format!(", layout {layout}"),
     };
-    let (count, frames) = (state.count, state.frames);
-    format!("layout count {count}{layout}, accepted frames {frames}")
+    let tallies = state.accepted.map(|tally| tally.to_string()).join(" ");
+    format!("layout count {}{layout}, tallies {tallies}", state.count)
 }
 
 /// The lines so far.
@@ -114,6 +117,19 @@ impl Lines {
             format!("history as it was, {}", numbers(state))
         };
         self.0.push(format!("{name}: {answer}; {left}"));
+    }
+
+    /// A conversion's line; a refused one leaves the state.
+    pub fn converted(&mut self, name: &str, older: &Older, state: &mut State) {
+        let said = match older.converted() {
+            Ok(converted) => {
+                assert_eq!(converted.history, older.history);
+                *state = converted;
+                format!("converted; history kept, {}", numbers(state))
+            }
+            Err(refusal) => format!("refusal {}; state as it was", refusal.number),
+        };
+        self.0.push(format!("{name}: {said}"));
     }
 
     pub fn add(&mut self, more: &str) {

@@ -20,6 +20,7 @@ use Rattle.mc_payload.specs.Unpack.{allocationsFit, payloadOf}
 use Rattle.mc_unpack.specs.Settled.{settledOf}
 use Rattle.mc_state.specs.declared.McDecodeState.{McDecodeState}
 use Rattle.mc_state.specs.Held.{follows}
+use Rattle.mc_state.specs.Desk.{deskFits}
 use Rattle.mc_state.specs.Frame.{Lent, Buffers, Verdict, refusal, changed, frame, settingsFor, lentFits, valuesFit, verdictUnpacked, verdictHead, verdictOf, answerOf, buffersOf, stateOf, afterVerdict, frameOf}
 use Rattle.mc_state.specs.Demand1.{Found, among, frameNumbers, Numbered, Left, Written, RefusedLeaves, AcceptedWrites}
 
@@ -79,51 +80,61 @@ record Changed (l : Lent) (s : McSettings) : Type 0 where
 unfoldable Way : Lent → McDecodeState → Verdict → Type 0
 Way l st (refusal x) = Early x
 Way l st (changed s) = Changed l s
-Way l st (frame s c headUsed used) = Found l s c headUsed used × (follows (st .«layout_len») (st .layout) s ≡ true)
+Way l st (frame s c headUsed used) = Found l s c headUsed used × ((follows (st .«layout_len») (st .layout) s ≡ true) × (deskFits (l .desk) ≡ true))
 
 module _ (l : Lent) (st : McDecodeState) where
   way-unpacked :
-      (header : McHeader) (word : ℕ) (status : McStatus) (headUsed : ℕ)
+      deskFits (l .desk) ≡ true
+      → (header : McHeader) (word : ℕ) (status : McStatus) (headUsed : ℕ)
       → headOf (l .reading) (l .head) (l .headBits) (l .baseChannels) ≡ accepted (header, (word, status)) headUsed
       → (o : Outcome Codes)
       → settledOf (settingsFor l header status) (l .payload) (l .payloadBits) ≡ o
       → Way l st (verdictUnpacked st (settingsFor l header status) headUsed o)
   unfolding Way verdictUnpacked
-  way-unpacked header word status headUsed eh (refused x) e = settled-early _ _ _ x e
-  way-unpacked header word status headUsed eh (accepted c used) e = go (follows (st .«layout_len») (st .layout) (settingsFor l header status)) refl
+  way-unpacked d header word status headUsed eh (refused x) e = settled-early _ _ _ x e
+  way-unpacked d header word status headUsed eh (accepted c used) e = go (follows (st .«layout_len») (st .layout) (settingsFor l header status)) refl
     where
       found : Found l (settingsFor l header status) c headUsed used
       found = record { header = header; word = word; status = status; head = eh; settings = refl; payload = e }
 
       go : (t : Bool) → follows (st .«layout_len») (st .layout) (settingsFor l header status) ≡ t
           → Way l st (cond t (frame (settingsFor l header status) c headUsed used) (changed (settingsFor l header status)))
-      go true f = (found, f)
+      go true f = (found, (f, d))
       go false f = record { codes = c; headUsed = headUsed; used = used; found = found }
 
   way-head :
-      (o : Outcome (McHeader × (ℕ × McStatus)))
+      deskFits (l .desk) ≡ true
+      → (o : Outcome (McHeader × (ℕ × McStatus)))
       → headOf (l .reading) (l .head) (l .headBits) (l .baseChannels) ≡ o
       → Way l st (verdictHead l st o)
   unfolding Way verdictHead
-  way-head (refused x) e = head-early _ _ _ _ x e
-  way-head (accepted (header, (word, status)) headUsed) e = way-unpacked header word status headUsed e _ refl
+  way-head d (refused x) e = head-early _ _ _ _ x e
+  way-head d (accepted (header, (word, status)) headUsed) e = way-unpacked d header word status headUsed e _ refl
+
+  -- what is found in the strings
+  abbrev read : Verdict
+  read = verdictHead l st (headOf (l .reading) (l .head) (l .headBits) (l .baseChannels))
 
   way : (w : Buffers) → Way l st (verdictOf l w st)
   unfolding Way verdictOf among
   way w = loan (lentFits l w st)
     where
-      values : (t : Bool) → Way l st (cond t (verdictHead l st (headOf (l .reading) (l .head) (l .headBits) (l .baseChannels))) (refusal (plain 7)))
-      values true = way-head _ refl
-      values false = early-plain 7 refl (λ z. omega arith) (plain 7) refl
+      values : deskFits (l .desk) ≡ true → (t : Bool) → Way l st (cond t read (refusal (plain 7)))
+      values d true = way-head d _ refl
+      values d false = early-plain 7 refl (λ z. omega arith) (plain 7) refl
 
-      loan : (t : Bool) → Way l st (cond t (cond (valuesFit (l .base) (st .«pred_hist»)) (verdictHead l st (headOf (l .reading) (l .head) (l .headBits) (l .baseChannels))) (refusal (plain 7))) (refusal (plain 6)))
-      loan true = values (valuesFit (l .base) (st .«pred_hist»))
+      desk : (t : Bool) → deskFits (l .desk) ≡ t → Way l st (cond t (cond (valuesFit (l .base) (st .«pred_hist»)) read (refusal (plain 7))) (refusal (plain 14)))
+      desk true d = values d (valuesFit (l .base) (st .«pred_hist»))
+      desk false d = early-plain 14 refl (λ z. omega arith) (plain 14) refl
+
+      loan : (t : Bool) → Way l st (cond t (cond (deskFits (l .desk)) (cond (valuesFit (l .base) (st .«pred_hist»)) read (refusal (plain 7))) (refusal (plain 14))) (refusal (plain 6)))
+      loan true = desk (deskFits (l .desk)) refl
       loan false = early-plain 6 refl (λ z. omega arith) (plain 6) refl
 
 -- ---- what each leaves
 
 module _ (l : Lent) (w : Buffers) (st : McDecodeState) where
-  left-by : (v : Verdict) → Way l st v → (x : Refusal) → answerOf v ≡ refused x → Left x l w st (afterVerdict v (l .base) w st)
+  left-by : (v : Verdict) → Way l st v → (x : Refusal) → answerOf v ≡ refused x → Left x l w st (afterVerdict v (l .desk) (l .base) w st)
   unfolding Way answerOf buffersOf stateOf among
   left-by (refusal r) h x e =
       let q : r ≡ x = cc in
@@ -145,12 +156,12 @@ module _ (l : Lent) (w : Buffers) (st : McDecodeState) where
               history = refl;
               count = refl;
               layout = refl;
-              tally = refl;
+              tallies = refl;
             };
       }
   left-by (frame s c headUsed used) h x e = let z : _≡_ {A = ℕ} 0 1 = cc in absurd (omega arith)
 
-  written-by : (v : Verdict) → Way l st v → (headUsed used : ℕ) → answerOf v ≡ accepted headUsed used → Written l st headUsed used (afterVerdict v (l .base) w st)
+  written-by : (v : Verdict) → Way l st v → (headUsed used : ℕ) → answerOf v ≡ accepted headUsed used → Written l st headUsed used (afterVerdict v (l .desk) (l .base) w st)
   unfolding Way answerOf buffersOf stateOf
   written-by (refusal r) h headUsed used e = let z : _≡_ {A = ℕ} 0 1 = cc in absurd (omega arith)
   written-by (changed s) h headUsed used e = let z : _≡_ {A = ℕ} 0 1 = cc in absurd (omega arith)
@@ -161,12 +172,13 @@ module _ (l : Lent) (w : Buffers) (st : McDecodeState) where
         settings = s;
         codes = c;
         found = rw (en, eu) at (h .0);
-        allowed = h .1;
+        allowed = h .1 .0;
+        desk = h .1 .1;
         buffers = refl;
         history = refl;
         count = refl;
         layout = refl;
-        tally = refl;
+        tallies = refl;
       }
 
 pub refused-leaves : RefusedLeaves

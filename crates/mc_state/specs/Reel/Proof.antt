@@ -29,65 +29,82 @@ use Rattle.mc_base.specs.Base.{Base}
 use Rattle.mc_state.specs.declared.McDecodeState.{McDecodeState}
 use Rattle.mc_state.specs.Held.{layoutFor, heldFits, sameLayout, follows, layoutAfter}
 use Rattle.mc_state.specs.HeldLaws.{layout-for, layout-is, held-some}
+use Rattle.mc_state.specs.Desk.{deskFits}
 use Rattle.mc_state.specs.Carry.{carriedOver}
 use Rattle.mc_state.specs.Frame.{Lent, Buffers, Verdict, refusal, changed, frame, After, settingsFor, lentBy, verdictUnpacked, verdictHead, verdictOf, stateOf, frameOf, fresh}
 use Rattle.mc_state.specs.Demand1.{Left, Written}
 use Rattle.mc_state.specs.Demand1.Proof.{refused-leaves, accepted-writes}
-use Rattle.mc_state.specs.Reel.{Call, calling, resultOf, results, stateAfter, stateBy, SameReel, NeverTheTally, Holds, FreshHolds, call, read, carried, reel, ChangedInMidReel, CarriedFresh, UnderFirst, Kept, FirstKeeps}
+use Rattle.mc_state.specs.Reel.{Call, calling, resultOf, results, stateAfter, stateBy, SameReel, NeverTheTally, atDesk, SameButDesk, OtherDesks, NeverTheDesk, Holds, FreshHolds, call, read, carried, reel, ChangedInMidReel, CarriedFresh, UnderFirst, Kept, FirstKeeps}
 
--- ---- one call, on two states that differ in the counter
+-- ---- one call, from two desks, on two states that differ in the tallies
 
-module _ (history : List Float) (count layout tally tally′ : ℕ) where
+module _ (history : List Float) (count layout : ℕ) (tallies tallies′ : List ℕ) where
   abbrev one : McDecodeState
-  one = stateBy history count layout tally
+  one = stateBy history count layout tallies
 
   abbrev other : McDecodeState
-  other = stateBy history count layout tally′
+  other = stateBy history count layout tallies′
 
   unpacked-same : (s : McSettings) (used : ℕ) (o : Outcome Codes) → verdictUnpacked one s used o ≡ verdictUnpacked other s used o
   unfolding verdictUnpacked
   unpacked-same s used (refused x) = refl
   unpacked-same s used (accepted c n) = refl
 
-  head-same : (l : Lent) (o : Outcome (McHeader × (ℕ × McStatus))) → verdictHead l one o ≡ verdictHead l other o
-  unfolding verdictHead
-  head-same l (refused x) = refl
-  head-same l (accepted (h, (word, status)) used) =
-      unpacked-same (settingsFor l h status) used (settledOf (settingsFor l h status) (l .payload) (l .payloadBits))
+  module _ (l : Lent) (desk desk′ : ℕ) where
+    head-same : (o : Outcome (McHeader × (ℕ × McStatus))) → verdictHead (atDesk desk l) one o ≡ verdictHead (atDesk desk′ l) other o
+    unfolding verdictHead
+    head-same (refused x) = refl
+    head-same (accepted (h, (word, status)) used) =
+        unpacked-same (settingsFor l h status) used (settledOf (settingsFor l h status) (l .payload) (l .payloadBits))
 
-  verdict-same : (l : Lent) (w : Buffers) → verdictOf l w one ≡ verdictOf l w other
-  unfolding verdictOf lentBy
-  verdict-same l w = rw (head-same l (headOf (l .reading) (l .head) (l .headBits) (l .baseChannels)))
+    verdict-same : (w : Buffers) → deskFits desk ≡ deskFits desk′ → verdictOf (atDesk desk l) w one ≡ verdictOf (atDesk desk′ l) w other
+    unfolding verdictOf lentBy
+    verdict-same w e = rw (e, head-same (headOf (l .reading) (l .head) (l .headBits) (l .baseChannels)))
 
-  state-same : (v : Verdict) (base : Base) → SameReel (stateOf v base one) (stateOf v base other)
+  state-same : (v : Verdict) (desk desk′ : ℕ) (base : Base) → SameReel (stateOf v desk base one) (stateOf v desk′ base other)
   unfolding stateOf
-  state-same (refusal x) base = record { history = refl; count = refl; layout = refl }
-  state-same (changed s) base = record { history = refl; count = refl; layout = refl }
-  state-same (frame s c headUsed used) base = record { history = refl; count = refl; layout = refl }
+  state-same (refusal x) desk desk′ base = record { history = refl; count = refl; layout = refl }
+  state-same (changed s) desk desk′ base = record { history = refl; count = refl; layout = refl }
+  state-same (frame s c headUsed used) desk desk′ base = record { history = refl; count = refl; layout = refl }
 
 record SameCall (a a′ : After) : Type 0 where
   result : resultOf a ≡ resultOf a′
   reel : SameReel (a .state) (a′ .state)
 
-call-same : (c : Call) (st st′ : McDecodeState) → SameReel st st′ → SameCall (calling c st) (calling c st′)
+call-same : (l : Lent) (w : Buffers) (desk desk′ : ℕ) (st st′ : McDecodeState) → deskFits desk ≡ deskFits desk′ → SameReel st st′
+    → SameCall (frameOf (atDesk desk l) w st) (frameOf (atDesk desk′ l) w st′)
 unfolding frameOf
-call-same c st st′ r = go (st′ .«pred_hist») (st′ .«layout_len») (st′ .layout) (r .history) (r .count) (r .layout)
+call-same l w desk desk′ st st′ e r = go (st′ .«pred_hist») (st′ .«layout_len») (st′ .layout) (r .history) (r .count) (r .layout)
   where
     go : (history : List Float) (count layout : ℕ) → st .«pred_hist» ≡ history → st .«layout_len» ≡ count → st .layout ≡ layout
-        → SameCall (calling c st) (calling c (stateBy history count layout (st′ .accepted)))
+        → SameCall (frameOf (atDesk desk l) w st) (frameOf (atDesk desk′ l) w (stateBy history count layout (st′ .accepted)))
     go history count layout eh ec el =
-        rw (← eh, ← ec, ← el, verdict-same (st .«pred_hist») (st .«layout_len») (st .layout) (st .accepted) (st′ .accepted) (c .lent) (c .buffers))
+        rw (← eh, ← ec, ← el, verdict-same (st .«pred_hist») (st .«layout_len») (st .layout) (st .accepted) (st′ .accepted) l desk desk′ w e)
         (record {
           result = refl;
-          reel = state-same (st .«pred_hist») (st .«layout_len») (st .layout) (st .accepted) (st′ .accepted) (verdictOf (c .lent) (c .buffers) (stateBy (st .«pred_hist») (st .«layout_len») (st .layout) (st′ .accepted))) (c .lent .base);
+          reel = state-same (st .«pred_hist») (st .«layout_len») (st .layout) (st .accepted) (st′ .accepted) (verdictOf (atDesk desk′ l) w (stateBy (st .«pred_hist») (st .«layout_len») (st .layout) (st′ .accepted))) desk desk′ (l .base);
         })
 
 pub never-the-tally : NeverTheTally
 unfolding results stateAfter
 never-the-tally [] st st′ r = record { same = refl; after = r }
 never-the-tally (c ∷ more) st st′ r =
-    let a = call-same c st st′ r in
+    let a = call-same (c .lent) (c .buffers) (c .lent .desk) (c .lent .desk) st st′ refl r in
     let rest = never-the-tally more (calling c st .state) (calling c st′ .state) (a .reel) in
+    record { same = ap₂ _∷_ (a .result) (rest .same); after = rest .after }
+
+desk-same : (c c′ : Call) (st st′ : McDecodeState) → SameButDesk c c′ → SameReel st st′ → SameCall (calling c st) (calling c′ st′)
+desk-same c c′ st st′ f r =
+    rw (f .lent, f .buffers) (call-same (c′ .lent) (c′ .buffers) (c .lent .desk) (c′ .lent .desk) st st′ (f .desk ∙ sym (f .desk′)) r)
+
+pub never-the-desk : NeverTheDesk
+unfolding results stateAfter OtherDesks
+never-the-desk [] [] st st′ f r = record { same = refl; after = r }
+never-the-desk [] (c′ ∷ more′) st st′ f r = absurd f
+never-the-desk (c ∷ more) [] st st′ f r = absurd f
+never-the-desk (c ∷ more) (c′ ∷ more′) st st′ f r =
+    let a = desk-same c c′ st st′ (f .0) r in
+    let rest = never-the-desk more more′ (calling c st .state) (calling c′ st′ .state) (f .1) (a .reel) in
     record { same = ap₂ _∷_ (a .result) (rest .same); after = rest .after }
 
 -- ---- what a call does to the count and the layout
@@ -174,13 +191,13 @@ reel-calls (c ∷ more) st = ap (λ t. read (resultOf (calling c st)) ∷ t) (re
 
 pub changed-in-mid-reel : ChangedInMidReel
 unfolding reel results stateAfter carriedOver
-changed-in-mid-reel [] after st tally e =
+changed-in-mid-reel [] after st tallies e =
     let h = st .«pred_hist» in
     let k = st .«layout_len» in
-    let a = never-the-tally after (stateBy h k 0 (st .accepted)) (stateBy h k 0 tally) (record { history = refl; count = refl; layout = refl }) in
+    let a = never-the-tally after (stateBy h k 0 (st .accepted)) (stateBy h k 0 tallies) (record { history = refl; count = refl; layout = refl }) in
     rw e (ap (λ t. carried 0 ∷ t) (reel-calls after (stateBy h k 0 (st .accepted)) ∙ ap (map read) (a .same)))
-changed-in-mid-reel (c ∷ before) after st tally e =
-    ap (λ t. read (resultOf (calling c st)) ∷ t) (changed-in-mid-reel before after (calling c st .state) tally (held-fits c st e))
+changed-in-mid-reel (c ∷ before) after st tallies e =
+    ap (λ t. read (resultOf (calling c st)) ∷ t) (changed-in-mid-reel before after (calling c st .state) tallies (held-fits c st e))
 
 pub fresh-holds : FreshHolds
 unfolding fresh
@@ -188,8 +205,8 @@ fresh-holds = refl
 
 pub carried-fresh : CarriedFresh
 unfolding carriedOver fresh
-carried-fresh cs st tally e z =
-    rw (e, z) (never-the-tally cs (stateBy (st .«pred_hist») 0 0 (st .accepted)) (stateBy (st .«pred_hist») 0 0 tally) (record { history = refl; count = refl; layout = refl }))
+carried-fresh cs st tallies e z =
+    rw (e, z) (never-the-tally cs (stateBy (st .«pred_hist») 0 0 (st .accepted)) (stateBy (st .«pred_hist») 0 0 tallies) (record { history = refl; count = refl; layout = refl }))
 
 -- ---- calls under reading 1
 

@@ -4,6 +4,7 @@ use crate::lent::{LENGTHS, MARGIN};
 use oracle::flat::Flat;
 use oracle::generator::damage;
 use oracle::generator::spoil::{self, Way, all, bits_past, either};
+use oracle::generator::state::tallies;
 use oracle::generator::{Made, Random};
 use oracle::scope::{Refusal, State, judge};
 use oracle::{FrameInput, FrameOutput};
@@ -34,10 +35,11 @@ pub const SLICES: [&str; 10] = [
 ];
 
 impl Case {
-    pub fn of(made: &Made, state: &State, reading: u32) -> Case {
+    pub fn of(made: &Made, state: &State, reading: u32, desk: u32) -> Case {
         Case {
             input: FrameInput {
                 reading,
+                desk,
                 ..made.input()
             },
             state: state.clone(),
@@ -72,7 +74,7 @@ impl Case {
 }
 
 /// The ways in the order in which they are combined: bits first, then counts, then the rest.
-const SPOILS: [Way<Case>; 27] = [
+const SPOILS: [Way<Case>; 29] = [
     Way::Input(spoil::HEAD_BIT),
     Way::Input(spoil::PAYLOAD_BIT),
     Way::Input(spoil::HEAD_FIELD),
@@ -108,13 +110,15 @@ const SPOILS: [Way<Case>; 27] = [
     Way::Case(("wrong layout", |random, _, case| {
         all(|| case.state.layout = damage::wrong_layout(random))
     })),
-    Way::Case(("other counter", |random, _, case| {
-        all(|| case.state.frames = random.pick(&[0, 1, u32::MAX - 1, u32::MAX]))
+    Way::Case(("other tallies", |random, _, case| {
+        all(|| case.state.accepted = tallies(random))
     })),
     Way::Case(("wrong loan", |random, _, case| {
         all(|| damage::wrong_loan(random, &mut case.input, &mut case.state))
     })),
     Way::Input(spoil::WRONG_READING),
+    Way::Input(spoil::OTHER_DESK),
+    Way::Input(spoil::WRONG_DESK),
     Way::Input(("wrong base count", |random, _, input| {
         let other = 3 - input.base_channels;
         all(|| input.base_channels = random.pick(&[0, 3, 4, 255, other]))

@@ -2,15 +2,16 @@
 
 use crate::case::SLICES;
 use oracle::generator::layout::{Layout, STEPS};
-use oracle::held::{CARRIED, HELD};
-use oracle::input::READINGS;
+use oracle::held::{CARRIED, CONVERTED, HELD};
+use oracle::input::{DESKS, READINGS};
 use oracle::phantom::COUNTED;
 use oracle::trail::CHANGES;
 
 /// What is counted by, and two numbers of it.
 pub type Cell = (By, u32, u32);
 
-/// What is counted: frames, but for `Carried`, and from `AcceptedUnder` on accepted ones alone.
+/// What is counted: frames, but for `Carried` and `Converted`, and from `AcceptedUnder` on accepted ones
+/// alone.
 #[derive(Debug, Clone, Copy, PartialEq, Eq, PartialOrd, Ord)]
 pub enum By {
     Answer,
@@ -31,8 +32,18 @@ pub enum By {
     Change,
     /// Carryings: a place in [`CARRIED`]; 1 where the history has a value of refusal 7.
     Carried,
+    /// Conversions: a place in [`CONVERTED`]; 1 where the history has a value of refusal 7.
+    Converted,
+    /// For a wrong desk: the answer that the frame has for desk 0.
+    WrongDesk,
+    /// Called a second time for another desk: the answer.
+    Anew,
     /// The reading of an accepted frame.
     AcceptedUnder,
+    /// The desk of an accepted frame.
+    AcceptedFor,
+    /// The desk of an accepted frame whose tally was at its top.
+    AtTop,
     /// The layout that the state has after a frame under reading 2.
     Stored,
     /// The layout by its number.
@@ -75,6 +86,10 @@ fn answer_name(number: u32) -> String {
     }
 }
 
+fn history_name(wild: u32) -> &'static str {
+    ["", ", wild history"][wild as usize]
+}
+
 /// The name of a cell's line: one for each kind, but tcs and codes by layout and what is held by reading.
 pub fn title((by, first, _): Cell) -> String {
     match by {
@@ -87,7 +102,7 @@ pub fn title((by, first, _): Cell) -> String {
 /// The name of a cell within its line.
 pub fn label((by, first, second): Cell) -> String {
     match by {
-        By::Answer => answer_name(first),
+        By::Answer | By::Anew => answer_name(first),
         By::WrongLength => SLICES[first as usize].to_string(),
         By::Reading if first == 3 => "another".to_string(),
         By::AmendedHead if first == 0 => "all".to_string(),
@@ -101,11 +116,15 @@ pub fn label((by, first, second): Cell) -> String {
             let answer = ["accepted", "refused"][second as usize];
             format!("{}, {answer}", CHANGES[first as usize])
         }
-        By::Carried => {
-            let history = ["", ", wild history"][second as usize];
-            format!("{}{history}", CARRIED[first as usize])
-        }
+        By::Carried => format!("{}{}", CARRIED[first as usize], history_name(second)),
+        By::Converted => format!("{}{}", CONVERTED[first as usize], history_name(second)),
+        By::WrongDesk => match first {
+            0 => "refusal 14 alone".to_string(),
+            6 => "refusal 6 before 14".to_string(),
+            _ => format!("refusal 14 before {first}"),
+        },
         By::AcceptedUnder => format!("reading {first}"),
+        By::AcceptedFor | By::AtTop => format!("desk {first}"),
         By::Stored | By::Layout => layout_name(first),
         By::Tc | By::Code => second.to_string(),
         By::Forbidden => format!("code {second} in {first}"),
@@ -121,7 +140,13 @@ pub fn wanted() -> Vec<Cell> {
         cells.extend(numbers.map(|n| (by, n, 0)));
     };
     range(By::Answer, 0..9);
-    range(By::Answer, 13..14);
+    range(By::Answer, 13..15);
+    range(By::WrongDesk, 0..9);
+    range(By::WrongDesk, 13..14);
+    range(By::Anew, 0..9);
+    range(By::Anew, 13..14);
+    range(By::AcceptedFor, 0..DESKS as u32);
+    range(By::AtTop, 0..DESKS as u32);
     range(By::WrongLength, 0..10);
     range(By::Reading, 1..4);
     range(By::AmendedHead, 0..1);
@@ -145,7 +170,8 @@ pub fn wanted() -> Vec<Cell> {
     cells
 }
 
-/// The cells of what is held: both readings, every change of them and every kind of carrying.
+/// The cells of what is held: both readings, every change of them, every kind of carrying and of
+/// conversion.
 fn held_cells() -> Vec<Cell> {
     let mut cells = vec![];
     for (place, (_, answers)) in HELD.iter().enumerate() {
@@ -156,6 +182,7 @@ fn held_cells() -> Vec<Cell> {
     let pairs = |by: By, places: usize| (0..2 * places as u32).map(move |k| (by, k / 2, k % 2));
     cells.extend(pairs(By::Change, CHANGES.len()));
     cells.extend(pairs(By::Carried, CARRIED.len()));
+    cells.extend(pairs(By::Converted, CONVERTED.len()));
     cells
 }
 

@@ -1,18 +1,20 @@
-//! What a run has reached: frames by what they hold, and carryings.
+//! What a run has reached: frames by what they hold, carryings and conversions.
 
 use crate::case::Case;
 use crate::cells::{By, Cell, held_cell, label, title, wanted};
+use oracle::desks::before_what;
 use oracle::generator::layout::STEPS;
-use oracle::held::{carried, held};
+use oracle::generator::state::Older;
+use oracle::held::{carried, converted, held};
 use oracle::input::READINGS;
 use oracle::phantom::{counted, on_amended_head};
-use oracle::scope::{Refusal, State};
+use oracle::scope::{Refusal, State, in_range, is_desk};
 use oracle::trail::Trail;
 use oracle::{FrameInput, FrameOutput, layouts, reference_head};
 use std::collections::BTreeMap;
 
-/// Frames and carryings by cell, calls by what was done to their frame, and the sequences with a change
-/// of reading with their frames.
+/// Frames, carryings and conversions by cell, calls by what was done to their frame, and the sequences
+/// with a change of reading with their frames.
 #[derive(Debug, Clone, Default)]
 pub struct Coverage {
     cells: BTreeMap<Cell, u64>,
@@ -34,6 +36,7 @@ impl Coverage {
         self.add(By::Reading, if named { case.input.reading } else { 3 }, 0);
         self.phantom(case, answer);
         self.held(case, answer);
+        self.wrong_desk(case, answer);
         match answer {
             Err(refusal) => {
                 self.add(By::Answer, refusal.number, 0);
@@ -41,7 +44,7 @@ impl Coverage {
                     self.add(By::Forbidden, refusal.group, refusal.code);
                 }
             }
-            Ok(frame) => self.accepted(&case.input, frame, after),
+            Ok(frame) => self.accepted(case, frame, after),
         }
     }
 
@@ -56,6 +59,17 @@ impl Coverage {
     pub fn carried(&mut self, state: &State, answer: &Result<(), Refusal>) {
         let wild = u32::from(!state.history_in_range());
         self.add(By::Carried, carried(state, answer) as u32, wild);
+    }
+
+    /// Counts a conversion of this older state with its answer.
+    pub fn converted(&mut self, older: &Older, answer: &Result<State, Refusal>) {
+        let wild = u32::from(!older.history.iter().all(in_range));
+        self.add(By::Converted, converted(older, answer) as u32, wild);
+    }
+
+    /// Counts a frame that was called a second time, for another desk, with its answer.
+    pub fn anew(&mut self, answer: &Result<FrameOutput, Refusal>) {
+        self.add(By::Anew, number(answer), 0);
     }
 
     /// Counts a sequence, if there was a change of reading in it.
@@ -88,11 +102,26 @@ impl Coverage {
         }
     }
 
-    fn accepted(&mut self, input: &FrameInput, frame: &FrameOutput, after: &State) {
+    /// What refusal 14 stands before, or that it comes after 6.
+    fn wrong_desk(&mut self, case: &Case, answer: &Result<FrameOutput, Refusal>) {
+        if !is_desk(case.input.desk) {
+            let otherwise = match number(answer) {
+                14 => before_what(&case.input, &case.state),
+                other => other,
+            };
+            self.add(By::WrongDesk, otherwise, 0);
+        }
+    }
+
+    fn accepted(&mut self, case: &Case, frame: &FrameOutput, after: &State) {
         let (config, status) = (&frame.head.config, &frame.head.status);
-        let layout = layouts::number(&frame.span.layout);
+        let (layout, input) = (layouts::number(&frame.span.layout), &case.input);
         self.add(By::Answer, 0, 0);
         self.add(By::AcceptedUnder, input.reading, 0);
+        self.add(By::AcceptedFor, input.desk, 0);
+        if case.state.accepted[input.desk as usize] == u32::MAX {
+            self.add(By::AtTop, input.desk, 0);
+        }
         if input.reading == 2 {
             self.add(By::Stored, after.layout, 0);
         }

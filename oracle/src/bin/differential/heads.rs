@@ -1,11 +1,12 @@
 //! Heads of every shape, whole and cut at every bit, in frames without anything to transmit. Each is
-//! lent under a reading drawn at random.
+//! lent under a reading and for a desk drawn at random.
 
 use crate::case::Case;
 use crate::run::Run;
 use crate::sequence::{Stopped, compare};
 use oracle::FrameInput;
 use oracle::generator::damage::{Part, cut, pad};
+use oracle::generator::state::desk;
 use oracle::generator::{HeadShape, Plan, Random};
 use oracle::input::READINGS;
 use oracle::scope::State;
@@ -28,6 +29,7 @@ pub fn head(run: &mut Run, seed: u64, number: u64) -> Result<(), Stopped> {
     for bits in 0..=whole.head_bits {
         let mut input = whole.clone();
         input.reading = random.pick(&READINGS);
+        input.desk = desk(&mut random);
         match bits == whole.head_bits {
             true => pad(&mut random, &mut input, Part::Head),
             false => cut(&mut input, Part::Head, bits, random.flag()),

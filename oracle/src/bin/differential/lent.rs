@@ -1,9 +1,10 @@
 //! The library's side of a frame: buffers with a pattern in and around them, the call, and what it
 //! left behind.
 
-use koftabasin::{Answer, Buffers, LFE, McState, OUTPUT, RAW, decode_packed};
+use koftabasin::{Answer, Buffers, Frame, LFE, McState, OUTPUT, RAW, decode_packed};
 use oracle::flat::Flat;
-use oracle::{FrameInput, library, scope};
+use oracle::input::DESKS;
+use oracle::{FrameInput, scope};
 
 /// The lengths of raw, work, output and lfe.
 pub const LENGTHS: [usize; 4] = [RAW, RAW, OUTPUT, LFE];
@@ -56,13 +57,27 @@ pub fn same_number(field: &str, found: u64, wanted: u64) -> Compared {
 
 /// The library's state is this one.
 pub fn same_state(found: &McState, wanted: &scope::State) -> Compared {
+    same_but_for_tallies(found, wanted)?;
+    same_tallies(found, &wanted.accepted)
+}
+
+/// The library's state is this one, but that its tallies may be any.
+pub fn same_but_for_tallies(found: &McState, wanted: &scope::State) -> Compared {
     same_floats("history", found.history(), &wanted.history)?;
     let count = u64::from(found.layout_len());
     same_number("layout count", count, u64::from(wanted.count))?;
     let layout = u64::from(found.layout());
-    same_number("layout", layout, u64::from(wanted.layout))?;
-    let frames = u64::from(found.accepted());
-    same_number("accepted frames", frames, u64::from(wanted.frames))
+    same_number("layout", layout, u64::from(wanted.layout))
+}
+
+pub fn same_tallies(found: &McState, wanted: &[u32; DESKS]) -> Compared {
+    for (desk, (found, wanted)) in found.accepted().iter().zip(wanted).enumerate() {
+        if found != wanted {
+            let field = format!("tally of desk {desk}");
+            same_number(&field, u64::from(*found), u64::from(*wanted))?;
+        }
+    }
+    Ok(())
 }
 
 /// What lies in a buffer before a call.
@@ -81,13 +96,7 @@ impl Lent {
 
     /// Calls the library on a frame, with buffers of these lengths, at most a margin above the right
     /// ones.
-    pub fn call(
-        &mut self,
-        state: &mut McState,
-        input: &FrameInput,
-        flat: &Flat,
-        lengths: [usize; 4],
-    ) -> Answer {
+    pub fn call(&mut self, state: &mut McState, frame: &Frame, lengths: [usize; 4]) -> Answer {
         let mut parts = self.0.iter_mut().zip(lengths);
         let mut next = || {
             let (buffer, length) = parts.next().expect("four buffers");
@@ -99,7 +108,7 @@ impl Lent {
             output: next(),
             lfe: next(),
         };
-        decode_packed(state, &library::frame(input, flat), &mut buffers)
+        decode_packed(state, frame, &mut buffers)
     }
 
     /// The buffers hold these values, or without any are untouched, and so are their margins. Then
@@ -129,18 +138,22 @@ fn untouched(field: &str, buffer: &[f64]) -> Compared {
     Ok(())
 }
 
+/// The sum of the bits of floats.
+pub fn float_sum<'a>(values: impl IntoIterator<Item = &'a f64>) -> u64 {
+    let bits = values.into_iter().map(|value| value.to_bits());
+    bits.fold(0, u64::wrapping_add)
+}
+
 /// A sum over all that is lent to be read only.
 pub fn loan_sum(input: &FrameInput, flat: &Flat) -> u64 {
-    let floats = flat.base.iter().flatten().map(|value| value.to_bits());
     let steps = flat.base_nb_steps.iter().chain(&flat.nb_steps);
     let steps = steps.map(|steps| u64::from(*steps));
     let bytes = input.head.iter().chain(&input.payload);
     let bytes = bytes.map(|byte| u64::from(*byte));
-    [
-        floats.fold(0, u64::wrapping_add),
-        steps.sum::<u64>(),
+    let sums = [
+        float_sum(flat.base.iter().flatten()),
+        steps.sum(),
         bytes.sum(),
-    ]
-    .into_iter()
-    .fold(0, u64::wrapping_add)
+    ];
+    sums.into_iter().fold(0, u64::wrapping_add)
 }

@@ -1,5 +1,6 @@
-//! Compares the proved library with the published Rust and document 01: every answer, every buffer and
-//! the state, in all bits, of frames and of carryings. Ends with status 1 at the first difference.
+//! Compares the proved library with the published Rust and documents 01 and 02: every answer, every
+//! buffer and the state, in all bits, of frames, of carryings and of conversions. Ends with status 1 at
+//! the first difference.
 
 mod case;
 mod cells;
@@ -8,6 +9,7 @@ mod heads;
 mod lent;
 mod run;
 mod sequence;
+mod twin;
 mod work;
 
 use std::process::ExitCode;
@@ -15,7 +17,8 @@ use std::time::Instant;
 use work::Work;
 
 const USAGE: &str = "usage: differential MODE [NUMBER [SEED]]
-  frames    sequences of frames, whole and spoiled, with carryings, until NUMBER frames are compared
+  frames    sequences of frames, whole and spoiled, with carryings and conversions, until NUMBER frames
+            are compared
   cuts      NUMBER frames, one of the longest and one that reading 1 refuses among them, cut at every bit
   heads     heads of every shape, whole and cut at every bit, until NUMBER heads are compared
   sequence  the piece of that NUMBER of a run of frames

@@ -73,13 +73,13 @@ part-frame-start-3 : tie.Need-part-frame-start-3
 part-frame-start-3 c = omega arith
 
 part-frame-end-3 : tie.Need-part-frame-end-3
-part-frame-end-3 c = let q = c .before .before .before .before .before .before .before .before .before .before .before .before .before .before in let r = right-of (q .args .n) (q .pre .whole .right) in omega (arith, r .one, r .two, q .pre .valuesLong)
+part-frame-end-3 c = let r = right-of (c .before .before .before .before .before .before .before .before .before .before .before .before .before .before .args .n) (c .before .before .before .before .before .before .before .before .before .before .before .before .before .before .pre .whole .right) in omega (arith, r .one, r .two, c .before .before .before .before .before .before .before .before .before .before .before .before .before .before .pre .valuesLong)
 
 sub-frame-4 : tie.Need-sub-frame-4
-sub-frame-4 c = let q = c .before .before .before .before .before .before .before .before .before .before .before .before .before .before .before in let r = right-of (q .args .n) (q .pre .whole .right) in omega (arith, r .one, r .two, q .pre .valuesLong)
+sub-frame-4 c = let r = right-of (c .before .before .before .before .before .before .before .before .before .before .before .before .before .before .before .args .n) (c .before .before .before .before .before .before .before .before .before .before .before .before .before .before .before .pre .whole .right) in omega (arith, r .one, r .two, c .before .before .before .before .before .before .before .before .before .before .before .before .before .before .before .pre .valuesLong)
 
 part-frame-start-4 : tie.Need-part-frame-start-4
-part-frame-start-4 c = let q = c .before .before .before .before .before .before .before .before .before .before .before .before .before .before .before in let r = right-of (q .args .n) (q .pre .whole .right) in omega (arith, r .one, r .two, q .pre .valuesLong)
+part-frame-start-4 c = let r = right-of (c .before .before .before .before .before .before .before .before .before .before .before .before .before .before .before .args .n) (c .before .before .before .before .before .before .before .before .before .before .before .before .before .before .before .pre .whole .right) in omega (arith, r .one, r .two, c .before .before .before .before .before .before .before .before .before .before .before .before .before .before .before .pre .valuesLong)
 
 part-frame-end-4 : tie.Need-part-frame-end-4
 part-frame-end-4 c = omega arith
@@ -94,19 +94,19 @@ part-frame-start-5 : tie.Need-part-frame-start-5
 part-frame-start-5 c = omega arith
 
 part-frame-end-5 : tie.Need-part-frame-end-5
-part-frame-end-5 c = let q = c .before .before .before .before .before .before .before .before .before .before .before .before .before .before .before .before in let r = right-of (q .args .n) (q .pre .whole .right) in omega (arith, r .one, r .two, q .pre .valuesLong)
+part-frame-end-5 c = let r = right-of (c .before .before .before .before .before .before .before .before .before .before .before .before .before .before .before .before .args .n) (c .before .before .before .before .before .before .before .before .before .before .before .before .before .before .before .before .pre .whole .right) in omega (arith, r .one, r .two, c .before .before .before .before .before .before .before .before .before .before .before .before .before .before .before .before .pre .valuesLong)
 
 mul-frame-2 : tie.Need-mul-frame-2
 mul-frame-2 c = omega arith
 
 sub-frame-6 : tie.Need-sub-frame-6
-sub-frame-6 c = let q = c .before .before .before .before .before .before .before .before .before .before .before .before .before .before .before .before .before in let r = right-of (q .args .n) (q .pre .whole .right) in omega (arith, r .one, r .two, q .pre .valuesLong)
+sub-frame-6 c = let r = right-of (c .before .before .before .before .before .before .before .before .before .before .before .before .before .before .before .before .before .args .n) (c .before .before .before .before .before .before .before .before .before .before .before .before .before .before .before .before .before .pre .whole .right) in omega (arith, r .one, r .two, c .before .before .before .before .before .before .before .before .before .before .before .before .before .before .before .before .before .pre .valuesLong)
 
 part-frame-start-6 : tie.Need-part-frame-start-6
-part-frame-start-6 c = let q = c .before .before .before .before .before .before .before .before .before .before .before .before .before .before .before .before .before in let r = right-of (q .args .n) (q .pre .whole .right) in omega (arith, r .one, r .two, q .pre .valuesLong)
+part-frame-start-6 c = let r = right-of (c .before .before .before .before .before .before .before .before .before .before .before .before .before .before .before .before .before .args .n) (c .before .before .before .before .before .before .before .before .before .before .before .before .before .before .before .before .before .pre .whole .right) in omega (arith, r .one, r .two, c .before .before .before .before .before .before .before .before .before .before .before .before .before .before .before .before .before .pre .valuesLong)
 
 part-frame-end-6 : tie.Need-part-frame-end-6
-part-frame-end-6 c = omega arith
+part-frame-end-6 c = let r = right-of (c .before .before .before .before .before .before .before .before .before .before .before .before .before .before .before .before .before .args .n) (c .before .before .before .before .before .before .before .before .before .before .before .before .before .before .before .before .before .pre .whole .right) in omega (arith, r .one, r .two, c .before .before .before .before .before .before .before .before .before .before .before .before .before .before .before .before .before .pre .valuesLong)
 
 sub-frame-7 : tie.Need-sub-frame-7
 sub-frame-7 c = omega arith
@@ -115,7 +115,7 @@ part-frame-start-7 : tie.Need-part-frame-start-7
 part-frame-start-7 c = omega arith
 
 part-frame-end-7 : tie.Need-part-frame-end-7
-part-frame-end-7 c = omega arith
+part-frame-end-7 c = let r = right-of (c .before .before .before .before .before .before .before .before .before .before .before .before .before .before .before .before .before .before .args .n) (c .before .before .before .before .before .before .before .before .before .before .before .before .before .before .before .before .before .before .pre .whole .right) in omega (arith, r .one, r .two, c .before .before .before .before .before .before .before .before .before .before .before .before .before .before .before .before .before .before .pre .stepsLong)
 
 mul-frame-3 : tie.Need-mul-frame-3
 mul-frame-3 c = omega arith
@@ -127,7 +127,7 @@ part-frame-start-8 : tie.Need-part-frame-start-8
 part-frame-start-8 c = omega arith
 
 part-frame-end-8 : tie.Need-part-frame-end-8
-part-frame-end-8 c = omega arith
+part-frame-end-8 c = let r = right-of (c .before .before .before .before .before .before .before .before .before .before .before .before .before .before .before .before .before .before .before .args .n) (c .before .before .before .before .before .before .before .before .before .before .before .before .before .before .before .before .before .before .before .pre .whole .right) in omega (arith, r .one, r .two, c .before .before .before .before .before .before .before .before .before .before .before .before .before .before .before .before .before .before .before .pre .stepsLong)
 
 frame-requires : tie.Need-frame-requires
 frame-requires c κs = search needs
@@ -149,53 +149,4 @@ unfolding lentFrom
 returns c = c .before .before .before .before .before .before .before .before .frame .ensures
 
 pub decode-parts-spec : {M : Type 1} → statement M
-decode-parts-spec =
-    tie.close
-    (tie.spec
-    cast-channels
-    mul-head
-    add-head
-    cast-payload
-    add-payload
-    cast-end
-    add-end
-    mul-base-steps
-    add-all-steps
-    mul-right
-    add-scaled-right
-    mul-last
-    sub-frame
-    part-frame-start
-    part-frame-end
-    cast-frame
-    sub-frame-2
-    part-frame-start-2
-    part-frame-end-2
-    cast-frame-2
-    sub-frame-3
-    part-frame-start-3
-    part-frame-end-3
-    sub-frame-4
-    part-frame-start-4
-    part-frame-end-4
-    mul-frame
-    sub-frame-5
-    part-frame-start-5
-    part-frame-end-5
-    mul-frame-2
-    sub-frame-6
-    part-frame-start-6
-    part-frame-end-6
-    sub-frame-7
-    part-frame-start-7
-    part-frame-end-7
-    mul-frame-3
-    sub-frame-8
-    part-frame-start-8
-    part-frame-end-8
-    frame-requires
-    same-length
-    same-length-2
-    same-length-3
-    same-length-4
-    returns)
+decode-parts-spec = tie.close (tie.spec cast-channels mul-head add-head cast-payload add-payload cast-end add-end mul-base-steps add-all-steps mul-right add-scaled-right mul-last sub-frame part-frame-start part-frame-end cast-frame sub-frame-2 part-frame-start-2 part-frame-end-2 cast-frame-2 sub-frame-3 part-frame-start-3 part-frame-end-3 sub-frame-4 part-frame-start-4 part-frame-end-4 mul-frame sub-frame-5 part-frame-start-5 part-frame-end-5 mul-frame-2 sub-frame-6 part-frame-start-6 part-frame-end-6 sub-frame-7 part-frame-start-7 part-frame-end-7 mul-frame-3 sub-frame-8 part-frame-start-8 part-frame-end-8 frame-requires same-length same-length-2 same-length-3 same-length-4 returns)

@@ -23,13 +23,13 @@ returns : tie.Need-returns
 returns c =
     let q = c .before .before .before .before .before in
     let a = q .before .before .args in
-    layout-accepted (q .read-head .result) _ (a .head .now) (a .bits) (a .base-channels) (q .read-head .ensures .0) _ (c .before .before .before .enum-told .given .1) _ (c .before .from-header .ensures) _ (c .layout .ensures)
+    layout-accepted (q .read-head .result) (a .reading) (a .head .now) (a .bits) (a .base-channels) (q .read-head .ensures .0) _ (c .before .before .before .enum-told .given .1) _ (c .before .from-header .ensures) _ (c .layout .ensures)
 
 returns-2 : tie.Need-returns-2
 returns-2 c =
     let q = c .before .before in
     let a = q .before .before .args in
-    layout-refused (q .read-head .result) _ (a .head .now) (a .bits) (a .base-channels) (q .read-head .ensures .0) _ (c .enum-told2 .given .1)
+    layout-refused (q .read-head .result) (a .reading) (a .head .now) (a .bits) (a .base-channels) (q .read-head .ensures .0) _ (c .enum-told2 .given .1)
 
 pub layout-of-spec : {M : Type 1} → statement M
 layout-of-spec =

@@ -89,6 +89,15 @@ slice-aggregate-text-of-9 c = search needs
 text-of-requires-9 : tie.Need-text-of-requires-9
 text-of-requires-9 c κs = search needs
 
+enum-told-10 : tie.Need-enum-told-10
+enum-told-10 c = search needs
+
+slice-aggregate-text-of-10 : tie.Need-slice-aggregate-text-of-10
+slice-aggregate-text-of-10 c = search needs
+
+text-of-requires-10 : tie.Need-text-of-requires-10
+text-of-requires-10 c κs = search needs
+
 returns : tie.Need-returns
 unfolding ascii wordsOf tab
 returns c = spelled _ (c .text-of .ensures) (sym (ap wordsOf (c .before .before .enum-told .given .1)))
@@ -125,6 +134,10 @@ returns-9 : tie.Need-returns-9
 unfolding ascii wordsOf tab
 returns-9 c = spelled _ (c .text-of9 .ensures) (sym (ap wordsOf (c .before .before .enum-told9 .given .1)))
 
+returns-10 : tie.Need-returns-10
+unfolding ascii wordsOf tab
+returns-10 c = spelled _ (c .text-of10 .ensures) (sym (ap wordsOf (c .before .before .enum-told10 .given .1)))
+
 pub words-of-spec : {M : Type 1} → statement M
 words-of-spec =
     tie.close
@@ -156,6 +169,9 @@ words-of-spec =
     enum-told-9
     slice-aggregate-text-of-9
     text-of-requires-9
+    enum-told-10
+    slice-aggregate-text-of-10
+    text-of-requires-10
     returns
     returns-2
     returns-3
@@ -164,4 +180,5 @@ words-of-spec =
     returns-6
     returns-7
     returns-8
-    returns-9)
+    returns-9
+    returns-10)

@@ -24,7 +24,7 @@ returns c =
     let k = c .before .before .before .settings in
     let r = c .before .before .read-mc-payload in
     let e = c .error-of in
-    after-refused st _ _ _ (k .result) _ _ (r .result .codes) (r .ensures .0) _ (k .ensures) (c .before .if1 .taken) (e .result) (e .ensures)
+    after-refused st _ _ _ _ (k .result) _ _ (r .result .codes) (r .ensures .0) _ (k .ensures) (c .before .if1 .taken) (e .result) (e .ensures)
 
 frame-layout-requires : tie.Need-frame-layout-requires
 frame-layout-requires c κs =
@@ -42,14 +42,14 @@ layout-follows-requires c κs = search needs
 
 returns-2 : tie.Need-returns-2
 returns-2 c =
-    let st = c .before .before .before .before .before .before .before .before .before .before .before .before .before .before .before .before .before .before .args .t1 in
-    let k = c .before .before .before .before .before .before .settings in
-    let r = c .before .before .before .before .before .read-mc-payload in
-    let z = c .before .before .before .before .if1 .left in
-    let n = c .before .before .before .frame-layout in
-    let h = history-same (k .result) _ _ (c .before .before .history .ensures) in
-    let f = c .before .layout-follows in
-    after-changed st _ _ _ (k .result) _ _ (r .result .codes) (r .ensures .0) _ (k .ensures) z _ (n .ensures .0) _ (n .ensures .1) _ h _ (f .ensures) (c .if2 .taken)
+    let st = c .before .before .before .before .before .before .before .before .before .before .before .before .before .before .before .before .before .before .before .args .t1 in
+    let k = c .before .before .before .before .before .before .before .settings in
+    let r = c .before .before .before .before .before .before .read-mc-payload in
+    let z = c .before .before .before .before .before .if1 .left in
+    let n = c .before .before .before .before .frame-layout in
+    let h = history-same (k .result) _ _ (c .before .before .before .history .ensures) in
+    let f = c .before .before .layout-follows in
+    after-changed st _ _ _ _ (k .result) _ _ (r .result .codes) (r .ensures .0) _ (k .ensures) z _ (n .ensures .0) _ (n .ensures .1) _ h _ (f .ensures) (c .before .if2 .taken)
 
 write-samples-requires : tie.Need-write-samples-requires
 write-samples-requires c κs =
@@ -78,8 +78,8 @@ finish-payload-requires c κs =
 layout-after-requires : tie.Need-layout-after-requires
 layout-after-requires c κs = search needs
 
-one-more-requires : tie.Need-one-more-requires
-one-more-requires c κs = search needs
+tallied-requires : tie.Need-tallied-requires
+tallied-requires c κs = c .before .before .before .before .before .before .before .before .before .before .before .before .before .before .before .before .before .before .before .before .before .before .before .before .before .before .before .before .before .before .before .before .before .before .before .before .before .pre .1 .2
 
 same-length : tie.Need-same-length
 same-length c = search needs
@@ -95,17 +95,17 @@ same-length-4 c = search needs
 
 returns-3 : tie.Need-returns-3
 returns-3 c =
-    let st = c .before .before .before .before .before .before .before .before .before .before .before .before .before .before .before .before .before .before .before .before .before .before .before .before .before .before .before .before .before .before .before .before .before .before .before .before .before .args .t1 in
-    let k = c .before .before .before .before .before .before .before .before .before .before .before .before .before .before .before .before .before .before .before .before .before .before .before .before .before .settings in
-    let r = c .before .before .before .before .before .before .before .before .before .before .before .before .before .before .before .before .before .before .before .before .before .before .before .before .read-mc-payload in
-    let z = c .before .before .before .before .before .before .before .before .before .before .before .before .before .before .before .before .before .before .before .before .before .before .before .if1 .left in
-    let n = c .before .before .before .before .before .before .before .before .before .before .before .before .before .before .before .before .before .before .before .before .before .before .frame-layout in
-    let h = history-same (k .result) _ _ (c .before .before .before .before .before .before .before .before .before .before .before .before .before .before .before .before .before .before .before .before .before .history .ensures) in
-    let f = c .before .before .before .before .before .before .before .before .before .before .before .before .before .before .before .before .before .before .before .before .layout-follows in
-    let v = c .before .before .before .before .before .before .before .before .before .before .before .before .before .before .before .before .write-samples in
-    let o = c .before .before .before .before .before .before .finish-payload in
+    let st = c .before .before .before .before .before .before .before .before .before .before .before .before .before .before .before .before .before .before .before .before .before .before .before .before .before .before .before .before .before .before .before .before .before .before .before .before .before .before .args .t1 in
+    let k = c .before .before .before .before .before .before .before .before .before .before .before .before .before .before .before .before .before .before .before .before .before .before .before .before .before .before .settings in
+    let r = c .before .before .before .before .before .before .before .before .before .before .before .before .before .before .before .before .before .before .before .before .before .before .before .before .before .read-mc-payload in
+    let z = c .before .before .before .before .before .before .before .before .before .before .before .before .before .before .before .before .before .before .before .before .before .before .before .before .if1 .left in
+    let n = c .before .before .before .before .before .before .before .before .before .before .before .before .before .before .before .before .before .before .before .before .before .before .before .frame-layout in
+    let h = history-same (k .result) _ _ (c .before .before .before .before .before .before .before .before .before .before .before .before .before .before .before .before .before .before .before .before .before .before .history .ensures) in
+    let f = c .before .before .before .before .before .before .before .before .before .before .before .before .before .before .before .before .before .before .before .before .before .layout-follows in
+    let v = c .before .before .before .before .before .before .before .before .before .before .before .before .before .before .before .before .before .write-samples in
+    let o = c .before .before .before .before .before .before .before .finish-payload in
     let w = written-is (k .result) (codesOf (r .result .codes)) _ _ _ _ _ _ (v .ensures .0) (o .ensures .0) (o .ensures .1) (v .ensures .1) in
-    after-accepted st _ _ _ (k .result) _ _ (r .result .codes) (r .ensures .0) _ (k .ensures) z _ (n .ensures .0) _ (n .ensures .1) _ h _ (f .ensures) (c .before .before .before .before .before .before .before .before .before .before .before .before .before .before .before .before .before .before .before .if2 .left) _ (c .before .layout-after .ensures) _ (c .one-more .ensures) _ w
+    after-accepted st _ _ _ _ (k .result) _ _ (r .result .codes) (r .ensures .0) _ (k .ensures) z _ (n .ensures .0) _ (n .ensures .1) _ h _ (f .ensures) (c .before .before .before .before .before .before .before .before .before .before .before .before .before .before .before .before .before .before .before .before .if2 .left) _ (c .before .before .layout-after .ensures) _ (c .tallied .ensures) _ w
 
 pub unpacked-frame-spec : {M : Type 1} → statement M
-unpacked-frame-spec = tie.close (tie.spec settings-requires read-mc-payload-requires error-of-requires returns frame-layout-requires history-requires layout-follows-requires returns-2 write-samples-requires finish-payload-requires layout-after-requires one-more-requires same-length same-length-2 same-length-3 same-length-4 returns-3)
+unpacked-frame-spec = tie.close (tie.spec settings-requires read-mc-payload-requires error-of-requires returns frame-layout-requires history-requires layout-follows-requires returns-2 write-samples-requires finish-payload-requires layout-after-requires tallied-requires same-length same-length-2 same-length-3 same-length-4 returns-3)

@@ -44,7 +44,7 @@ held-fits-requires c κs = search needs
 -- src/checks.rt:65:1
 returns : tie.Need-returns
 unfolding lentBy
-returns c = joined (c .before .before .before .before .before .string-fits .ensures) (c .before .before .before .before .string-fits2 .ensures) (c .before .before .before .loan-fits .ensures) (c .before .before .values-long .ensures) (c .before .room-fits .ensures) (c .held-fits .ensures)
+returns c = λ desk. joined (c .before .before .before .before .before .string-fits .ensures) (c .before .before .before .before .string-fits2 .ensures) (c .before .before .before .loan-fits .ensures) (c .before .before .values-long .ensures) (c .before .room-fits .ensures) (c .held-fits .ensures)
 
 pub lent-fits-spec : {M : Type 1} → statement M
 lent-fits-spec =

@@ -7,10 +7,10 @@ use Rattle.mcread.proofs.input.read_frames.Statement.{statement}
 use Rattle.mcread.proofs.input.read_frames.Tie as tie
 
 abbrev Inv-loop : tie.InvT-loop
-Inv-loop frames state₀ accepted₀ refused₀ k₀ state accepted refused k = (k ≤ frames) × (accepted ≤ k) × (refused ≤ k)
+Inv-loop version frames state₀ desks₀ accepted₀ refused₀ k₀ state desks accepted refused k = (k ≤ frames) × (accepted ≤ k) × (refused ≤ k)
 
 abbrev μ-loop : tie.MeasureT-loop
-μ-loop frames state₀ accepted₀ refused₀ k₀ state accepted refused k = frames - k
+μ-loop version frames state₀ desks₀ accepted₀ refused₀ k₀ state desks accepted refused k = frames - k
 
 loop-holds : tie.Need-loop-holds Inv-loop μ-loop
 loop-holds c = (omega arith, omega arith, omega arith)
@@ -33,6 +33,9 @@ add-accepted c = search needs
 add-refused : tie.Need-add-refused Inv-loop μ-loop
 add-refused c = search needs
 
+marked-requires : tie.Need-marked-requires Inv-loop μ-loop
+marked-requires c κs = search needs
+
 add-k : tie.Need-add-k Inv-loop μ-loop
 add-k c = search needs
 
@@ -40,7 +43,7 @@ loop-less : tie.Need-loop-less Inv-loop μ-loop
 loop-less c = omega arith
 
 loop-again : tie.Need-loop-again Inv-loop μ-loop
-loop-again c = ⊎-elim (λ w. (omega arith, omega (arith, w .1), omega (arith, w .2))) (λ w. (omega arith, omega (arith, w .1), omega (arith, w .2))) (c .before .if2 .came)
+loop-again c = ⊎-elim (λ w. (omega arith, omega (arith, w .1), omega (arith, w .2))) (λ w. (omega arith, omega (arith, w .1), omega (arith, w .2))) (c .before .before .if2 .came)
 
 slice-aggregate-read-whole : tie.Need-slice-aggregate-read-whole Inv-loop μ-loop
 slice-aggregate-read-whole c = search needs
@@ -57,28 +60,11 @@ returns-2 c = tt
 put-totals-requires : tie.Need-put-totals-requires Inv-loop μ-loop
 put-totals-requires c κs = tt
 
+put-tallies-requires : tie.Need-put-tallies-requires Inv-loop μ-loop
+put-tallies-requires c κs = search needs
+
 returns-3 : tie.Need-returns-3 Inv-loop μ-loop
 returns-3 c = tt
 
 pub read-frames-spec : {M : Type 1} → statement M
-read-frames-spec =
-    tie.close
-    (tie.spec
-    Inv-loop
-    μ-loop
-    loop-holds
-    cast-read-frame
-    add-read-frame
-    read-frame-requires
-    returns
-    add-accepted
-    add-refused
-    add-k
-    loop-less
-    loop-again
-    slice-aggregate-read-whole
-    read-whole-requires
-    put-left-over-requires
-    returns-2
-    put-totals-requires
-    returns-3)
+read-frames-spec = tie.close (tie.spec Inv-loop μ-loop loop-holds cast-read-frame add-read-frame read-frame-requires returns add-accepted add-refused marked-requires add-k loop-less loop-again slice-aggregate-read-whole read-whole-requires put-left-over-requires returns-2 put-totals-requires put-tallies-requires returns-3)

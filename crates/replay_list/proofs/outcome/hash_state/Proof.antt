@@ -22,26 +22,12 @@ cast-hash-number-2 c = search needs
 hash-number-requires-2 : tie.Need-hash-number-requires-2
 hash-number-requires-2 c κs = search needs
 
-cast-hash-number-3 : tie.Need-cast-hash-number-3
-cast-hash-number-3 c = search needs
-
-hash-number-requires-3 : tie.Need-hash-number-requires-3
-hash-number-requires-3 c κs = search needs
+hash-tallies-requires : tie.Need-hash-tallies-requires
+hash-tallies-requires c κs = search needs
 
 returns : tie.Need-returns
 unfolding stateHash
-returns c = rw (c .hash-number3 .ensures, c .before .before .hash-number2 .ensures, c .before .before .before .before .hash-number .ensures, c .before .before .before .before .before .before .hash .ensures)
+returns c = rw (c .hash-tallies .ensures, c .before .hash-number2 .ensures, c .before .before .before .hash-number .ensures, c .before .before .before .before .before .hash .ensures)
 
 pub hash-state-spec : {M : Type 1} → statement M
-hash-state-spec =
-    tie.close
-    (tie.spec
-    slice-aggregate-hash
-    hash-requires
-    cast-hash-number
-    hash-number-requires
-    cast-hash-number-2
-    hash-number-requires-2
-    cast-hash-number-3
-    hash-number-requires-3
-    returns)
+hash-state-spec = tie.close (tie.spec slice-aggregate-hash hash-requires cast-hash-number hash-number-requires cast-hash-number-2 hash-number-requires-2 hash-tallies-requires returns)

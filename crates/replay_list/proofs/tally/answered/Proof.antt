@@ -5,7 +5,7 @@ use Rattle.replay_list.proofs.tally.answered.Statement.{statement}
 use Rattle.replay_list.proofs.tally.answered.Tie as tie
 
 returns : tie.Need-returns
-returns c = simp (le-leb 9 (c .before .args .n) (c .if1 .taken))
+returns c = simp (le-leb 15 (c .before .args .n) (c .if1 .taken))
 
 mul-wrapping-add-u64 : tie.Need-mul-wrapping-add-u64
 mul-wrapping-add-u64 c = search needs
@@ -23,7 +23,7 @@ array-write-next : tie.Need-array-write-next
 array-write-next c = search needs
 
 returns-2 : tie.Need-returns-2
-returns-2 c = simp (lt-leb 9 (c .before .before .args .n) (c .before .if1 .left), c .wrapping-add-u64 .ensures)
+returns-2 c = simp (lt-leb 15 (c .before .before .args .n) (c .before .if1 .left), c .wrapping-add-u64 .ensures)
 
 pub answered-spec : {M : Type 1} → statement M
 answered-spec =
