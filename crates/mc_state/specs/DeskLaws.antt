@@ -1,8 +1,6 @@
 -- What a desk does to a frame call: one above 7 is refused after a wrong loan and before all else, and nothing is changed.
 use mathlib.Core.Path.{_≡_}
 use mathlib.Core.Bool.{true, false}
-use Prim.Native.Nat.{ℕ, _≤_, _<_}
-use borrow.Author.Tests.{lt-ltb, le-ltb}
 use Rattle.bits.specs.Syntax.{plain}
 use Rattle.mc_state.specs.declared.McDecodeState.{McDecodeState}
 use Rattle.mc_state.specs.Desk.{deskFits}

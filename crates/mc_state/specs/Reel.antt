@@ -13,7 +13,7 @@ use Rattle.bits.specs.Syntax.{Outcome, accepted, refused}
 use Rattle.mc_state.specs.declared.McDecodeState.{McDecodeState}
 use Rattle.mc_state.specs.Held.{heldFits}
 use Rattle.mc_state.specs.Desk.{deskFits, top, tallyAt}
-use Rattle.mc_state.specs.Carry.{carriedOver}
+use Rattle.mc_state.specs.Carry.{carriedOver, convertedOver}
 use Rattle.mc_state.specs.Frame.{Lent, Buffers, After, frameOf, fresh}
 
 -- a frame call, beside the state
@@ -162,6 +162,14 @@ abbrev pub CarriedFresh : Type 0
 CarriedFresh =
     (cs : List Call) (st : McDecodeState) (tallies : List ℕ) → Holds st → st .«layout_len» ≡ 0
     → SameFrom cs (carriedOver st .state) (stateBy (st .«pred_hist») (fresh .«layout_len») (fresh .layout) tallies)
+
+-- ---- a state of before there were desks
+
+-- calls on a converted state give what they give from that history, count and layout, whatever the tallies
+abbrev pub ConvertedGoesOn : Type 0
+ConvertedGoesOn =
+    (cs : List Call) (history : List Float) (count layout tally : ℕ) (st : McDecodeState) (tallies : List ℕ) → length history ≡ 576 → heldFits count layout ≡ true
+    → SameFrom cs (convertedOver history count layout tally st .state) (stateBy history count layout tallies)
 
 -- ---- calls under reading 1
 

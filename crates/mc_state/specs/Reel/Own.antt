@@ -7,13 +7,13 @@ use native.Mathlib.Decide.{decLt, ℕ-discrete}
 use native.Mathlib.Omega.{arith}
 use borrow.Author.Tests.{leb-true, lt-ltb, le-ltb, eq-eqb, ne-eqb}
 use lib.Dec.{eqb, ltb}
-use lib.ListN.{length, getD, set, length-set}
+use lib.ListN.{length, length-set}
 use lib.Seq.{getD-set-same, getD-set-other}
 use Rattle.mc_base.specs.Base.{Base}
 use Rattle.mc_state.specs.declared.McDecodeState.{McDecodeState}
 use Rattle.mc_state.specs.Desk.{top, oneMore, tallyAt, tallied}
 use Rattle.mc_state.specs.Frame.{Verdict, refusal, changed, frame, verdictOf, answerOf, stateOf, frameOf}
-use Rattle.mc_state.specs.Reel.{Call, calling, stateAfter, Tallies, capped, one, acceptedAt, OwnTally}
+use Rattle.mc_state.specs.Reel.{Call, calling, stateAfter, capped, one, acceptedAt, OwnTally}
 
 -- ---- sums up to the top
 

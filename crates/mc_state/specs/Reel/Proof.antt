@@ -30,11 +30,11 @@ use Rattle.mc_state.specs.declared.McDecodeState.{McDecodeState}
 use Rattle.mc_state.specs.Held.{layoutFor, heldFits, sameLayout, follows, layoutAfter}
 use Rattle.mc_state.specs.HeldLaws.{layout-for, layout-is, held-some}
 use Rattle.mc_state.specs.Desk.{deskFits}
-use Rattle.mc_state.specs.Carry.{carriedOver}
+use Rattle.mc_state.specs.Carry.{carriedOver, converted, convertedOver}
 use Rattle.mc_state.specs.Frame.{Lent, Buffers, Verdict, refusal, changed, frame, After, settingsFor, lentBy, verdictUnpacked, verdictHead, verdictOf, stateOf, frameOf, fresh}
 use Rattle.mc_state.specs.Demand1.{Left, Written}
 use Rattle.mc_state.specs.Demand1.Proof.{refused-leaves, accepted-writes}
-use Rattle.mc_state.specs.Reel.{Call, calling, resultOf, results, stateAfter, stateBy, SameReel, NeverTheTally, atDesk, SameButDesk, OtherDesks, NeverTheDesk, Holds, FreshHolds, call, read, carried, reel, ChangedInMidReel, CarriedFresh, UnderFirst, Kept, FirstKeeps}
+use Rattle.mc_state.specs.Reel.{Call, calling, resultOf, results, stateAfter, stateBy, SameReel, NeverTheTally, atDesk, SameButDesk, OtherDesks, NeverTheDesk, Holds, FreshHolds, call, read, carried, reel, ChangedInMidReel, CarriedFresh, ConvertedGoesOn, UnderFirst, Kept, FirstKeeps}
 
 -- ---- one call, from two desks, on two states that differ in the tallies
 
@@ -207,6 +207,12 @@ pub carried-fresh : CarriedFresh
 unfolding carriedOver fresh
 carried-fresh cs st tallies e z =
     rw (e, z) (never-the-tally cs (stateBy (st .«pred_hist») 0 0 (st .accepted)) (stateBy (st .«pred_hist») 0 0 tallies) (record { history = refl; count = refl; layout = refl }))
+
+pub converted-goes-on : ConvertedGoesOn
+unfolding convertedOver
+converted-goes-on cs history count layout tally st tallies long e =
+    rw (eq-eqb (length history) 576 long, e)
+    (never-the-tally cs (converted history count layout tally) (stateBy history count layout tallies) (record { history = refl; count = refl; layout = refl }))
 
 -- ---- calls under reading 1
 

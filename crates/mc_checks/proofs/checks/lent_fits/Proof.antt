@@ -5,13 +5,6 @@ use Rattle.mc_state.specs.Frame.{lentBy}
 use borrow.Author.Needs.{needs}
 use Rattle.mc_checks.proofs.checks.lent_fits.Statement.{statement}
 use Rattle.mc_checks.proofs.checks.lent_fits.Tie as tie
-use Rattle.mc_checks.proofs.checks.lent_fits.Reads as reads
-use Rattle.mc_checks.proofs.checks.lent_fits.Lts as lts
-use Rattle.mc_checks.proofs.checks.room_fits.Reads as room-fits-reads
-use Rattle.mc_checks.proofs.checks.values_long.Reads as values-long-reads
-use Rattle.mc_fields.proofs.string_fits.Reads as string-fits-reads
-use Rattle.mc_loan.proofs.loan_fits.Reads as loan-fits-reads
-use Rattle.mc_state.proofs.held_fits.Reads as held-fits-reads
 
 -- src/checks.rt:87:9
 joined : {a b c d e f a′ b′ c′ d′ e′ f′ : Bool} → a ≡ a′ → b ≡ b′ → c ≡ c′ → d ≡ d′ → e ≡ e′ → f ≡ f′
