@@ -1,4 +1,4 @@
--- One frame call: the refusal in document 01's order or the accepted frame, and what every buffer and the state hold afterwards.
+-- One frame call: the refusal in the order of documents 01 and 02 or the accepted frame, and what every buffer and the state hold afterwards.
 use mathlib.Core.Bool.{Bool, _&&_, cond}
 use mathlib.Core.List.{List}
 use Prim.Native.Nat.{ℕ}

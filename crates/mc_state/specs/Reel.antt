@@ -62,7 +62,7 @@ pub record SameResults (cs cs′ : List Call) (st st′ : McDecodeState) : Type 
 abbrev pub SameFrom : List Call → McDecodeState → McDecodeState → Type 0
 SameFrom cs st st′ = SameResults cs cs st st′
 
--- whatever desks the calls name
+-- states that differ in their tallies alone, and calls from any desks, also above 7
 abbrev pub NeverTheTally : Type 0
 NeverTheTally = (cs : List Call) (st st′ : McDecodeState) → SameReel st st′ → SameFrom cs st st′
 
@@ -97,7 +97,7 @@ OtherDesks [] (c′ ∷ more′) = ⊥
 OtherDesks (c ∷ more) [] = ⊥
 OtherDesks (c ∷ more) (c′ ∷ more′) = SameButDesk c c′ × OtherDesks more more′
 
--- whatever the tallies
+-- calls that differ in their desks alone, from states with any tallies
 abbrev pub NeverTheDesk : Type 0
 NeverTheDesk = (cs cs′ : List Call) (st st′ : McDecodeState) → OtherDesks cs cs′ → SameReel st st′ → SameResults cs cs′ st st′
 
@@ -108,9 +108,11 @@ pub record Tallies (st : McDecodeState) : Type 0 where
   pub eight : length (st .accepted) ≡ 8
   pub small : (desk : ℕ) → tallyAt (st .accepted) desk ≤ top
 
+-- up to the top
 abbrev pub capped : ℕ → ℕ
 capped n = cond (ltb n top) n top
 
+-- an accepted frame is one
 abbrev pub one : Outcome ℕ → ℕ
 one (accepted headUsed used) = 1
 one (refused x) = 0
@@ -120,6 +122,7 @@ unfoldable pub acceptedAt : ℕ → List Call → McDecodeState → ℕ
 acceptedAt desk [] st = 0
 acceptedAt desk (c ∷ more) st = cond (eqb (c .lent .desk) desk) (one (calling c st .answer)) 0 + acceptedAt desk more (calling c st .state)
 
+-- its tally is what it was and the frames that it had accepted, up to the top
 abbrev pub OwnTally : Type 0
 OwnTally =
     (desk : ℕ) (cs : List Call) (st : McDecodeState) → deskFits desk ≡ true → Tallies st
