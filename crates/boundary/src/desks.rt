@@ -14,7 +14,7 @@ fn desk_line(name: &[u8], left: f64, desk: u32, state: McDecodeState) -> McDecod
     line(name, loan, state)
 }
 
-// Desks above 7, by themselves and beside a wrong loan, a wild value and a short head, in a state of 3/2 whose history is of another base.
+// Desks above 7, by themselves and beside a wrong loan, a wild value, a short head and a changed layout, in a state of 3/2 whose history is of another base.
 fn wrong_desk_lines(state: McDecodeState) {
     desk_line(b"desk 8", 0.5, 8, state);
     desk_line(b"desk 256", 0.5, 256, state);
