@@ -1,4 +1,6 @@
 // The lines of desks and of conversion.
+ghost use mathlib.Core.Path.{_≡_};
+ghost use Rattle.mc_state.specs.Carry.{convertedOver};
 use crate::frames::three_one;
 use crate::frames::three_two;
 use crate::lines::carry_line;
@@ -58,7 +60,9 @@ fn convert_line(
     layout_len: u8,
     layout: u8,
     accepted: u32,
-) -> McDecodeState {
+) -> McDecodeState
+    ensures { λ r. ⌜ r ≡ convertedOver (now (history .entry)) «layout_len» layout accepted state .state ⌝ }
+{
     let converted = state.convert(history, layout_len, layout, accepted);
     say(name);
     say_converted(state, history, converted);

@@ -1,4 +1,7 @@
 // The lines, in document 01's order.
+ghost use mathlib.Core.Path.{_≡_};
+ghost use Rattle.mc_state.specs.Carry.{carriedOver};
+ghost use Rattle.boundary_run.specs.Run.{afterRun};
 use crate::frames::barred;
 use crate::frames::centre_code;
 use crate::frames::forbidden;
@@ -24,7 +27,9 @@ use boundary_run::run_frame;
 use mc_state::McDecodeState;
 
 // A frame's line, and the state after it.
-pub fn line(name: &[u8], loan: Loan, state: McDecodeState) -> McDecodeState {
+pub fn line(name: &[u8], loan: Loan, state: McDecodeState) -> McDecodeState
+    ensures { λ r. ⌜ r ≡ afterRun loan state .state ⌝ }
+{
     let found = run_frame(loan, state);
     say(name);
     say_found(loan, state, found);
@@ -176,7 +181,9 @@ fn read_line(name: &[u8], frame: Loan, reading: u32, state: McDecodeState) -> Mc
 }
 
 // The line of carrying, and the state after it.
-pub fn carry_line(name: &[u8], state: McDecodeState) -> McDecodeState {
+pub fn carry_line(name: &[u8], state: McDecodeState) -> McDecodeState
+    ensures { λ r. ⌜ r ≡ carriedOver state .state ⌝ }
+{
     let carried = state.carry();
     say(name);
     say_carried(state, carried);
