@@ -2,3 +2,4 @@
 pub mod Strided
 pub mod Column
 pub mod ScaleByPlace
+pub mod TwoSteps

@@ -3,3 +3,4 @@ pub mod TurnBlock
 pub mod Strided
 pub mod Column
 pub mod ScaleByPlace
+pub mod TwoSteps

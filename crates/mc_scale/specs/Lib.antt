@@ -1,3 +1,4 @@
 pub mod Scale
+pub mod TwoSteps
 pub mod Code
 pub mod Laws

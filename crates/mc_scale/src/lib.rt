@@ -6,6 +6,7 @@ ghost use Rattle.mc_base.specs.Base.{chosen};
 ghost use Rattle.mc_scale.specs.Code.Strided.{column};
 ghost use Rattle.mc_scale.specs.Code.Column.{columnAt};
 ghost use Rattle.mc_scale.specs.Code.ScaleByPlace.{factorsOf, timesFactor, scaledFrom, PlacesFit, scaledByPlace};
+ghost use Rattle.mc_scale.specs.Code.TwoSteps.{twoStepsByPlace};
 use mc_base::chosen;
 use mc_crosstalk::FROM_BASE;
 use mc_crosstalk::TRANSMITTED;
@@ -65,7 +66,8 @@ fn scale_place<'a>(
 }
 
 // All places, channel by channel: work holds the scaled values, channel m, slot and subband at (36 * m + slot) * 32 + subband; +0 where
-// the step count is 0.
+// the step count is 0. A source is multiplied while it is read, with no copy in work. The second promise: that is the same as copying all
+// sources into work and then multiplying work, whatever it held.
 pub fn scale<'a>(
     steps: &[u32; 96],
     source: &[u8; 96],
@@ -79,6 +81,7 @@ pub fn scale<'a>(
     requires { ⌜ PlacesFit (now source) (now base) (now scalefactor) (now left) (now right) ⌝ }
     requires { ⌜ (length (now raw) ≡ 3456) × (length (now work) ≡ 3456) ⌝ }
     ensures { λ _. ⌜ now (work .exit) ≡ scaledByPlace (now (steps .entry)) (now (source .entry)) (now (base .entry)) (factorsOf (now (scalefactor .entry))) (now (raw .entry)) (now (left .entry)) (now (right .entry)) ⌝ }
+    ensures { λ _. ⌜ now (work .exit) ≡ twoStepsByPlace (now (steps .entry)) (now (source .entry)) (now (base .entry)) (factorsOf (now (scalefactor .entry))) (now (raw .entry)) (now (left .entry)) (now (right .entry)) (now (work .entry)) ⌝ }
 {
     let factors = factors_of(scalefactor);
     fill::clear(work);

@@ -36,7 +36,7 @@ returns c =
     let a = c .before .before .before .before .before .before .before .before .before .before .before .before .before .before .before .before .before .before .before .before .args in
     let r = recordFrom (a .raw .now) (a .scalefactor .now) (a .delays) (a .coefs) in
     let b = baseFrom (a .raw-left .now) (a .raw-right .now) (a .scaled-left .now) (a .scaled-right .now) in (
-      work-finished (a .s) r b (a .history .now) (c .before .before .before .before .before .before .before .before .before .before .before .before .before .before .before .before .before .before .before .before .pre .0) (c .before .before .before .before .before .before .before .before .before .before .before .scale .ensures) (c .before .before .before .before .before .before .before .predict .ensures),
+      work-finished (a .s) r b (a .history .now) (c .before .before .before .before .before .before .before .before .before .before .before .before .before .before .before .before .before .before .before .before .pre .0) (c .before .before .before .before .before .before .before .before .before .before .before .scale .ensures .0) (c .before .before .before .before .before .before .before .predict .ensures),
       output-scaled (a .s) b (c .before .before .before .before .before .before .before .predict .last .1 .1 .1 .1 .1 .1 .0) (c .before .before .write-output .ensures),
     )
 

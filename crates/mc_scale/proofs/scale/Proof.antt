@@ -12,6 +12,7 @@ use Rattle.fill.specs.TabLaws.{length-tab}
 use Rattle.fill.specs.ByTurn.{turn-starts}
 use Rattle.mc_scale.specs.Code.Column.{placeAt}
 use Rattle.mc_scale.specs.Laws.ScaleByPlace.{Scaling, scaling-more, scaling-skip, scaling-ends}
+use Rattle.mc_scale.specs.Laws.TwoSteps.{one-step}
 use native.Mathlib.Omega.{arith}
 use Rattle.mc_scale.proofs.scale.Statement.{statement}
 use Rattle.mc_scale.proofs.scale.Tie as tie
@@ -86,8 +87,10 @@ returns c =
     let s = c .before .before .before .before .before .before .before .before .before .before .before in
     let a = s .args in
     let factors = c .before .before .before .before .before .before .factors-of in
+    let once =
+    scaling-ends (a .steps .now) (a .source .now) (a .base .now) (factors .result) (a .raw .now) (a .left .now) (a .right .now) _ _ _ (c .before .loop .inv .1) (omega arith) (cleared-long _ _ (c .before .before .before .before .clear .ensures) ∙ s .pre .1 .1) in
     rw (← factors .ensures)
-    (scaling-ends (a .steps .now) (a .source .now) (a .base .now) (factors .result) (a .raw .now) (a .left .now) (a .right .now) _ _ _ (c .before .loop .inv .1) (omega arith) (cleared-long _ _ (c .before .before .before .before .clear .ensures) ∙ s .pre .1 .1))
+    (once, once ∙ one-step (a .steps .now) (a .source .now) (a .base .now) (factors .result) (a .raw .now) (a .left .now) (a .right .now) (a .work .now) (s .pre .1 .1))
 
 pub scale-spec : {M : Type 1} → statement M
 scale-spec =
