@@ -1,5 +1,5 @@
--- Scaling in two steps on a buffer: what each channel has or copies goes into work, then work is multiplied in place. `scale` has one step,
--- which multiplies what it reads.
+-- Scaling in two steps on a buffer, in the standard's order: what each channel has or copies goes into work (ISO/IEC 13818-3, 2.5.3.2.1.2), then
+-- work is multiplied in place (2.5.3.2.3). `scale` has one step, which multiplies what it reads.
 use mathlib.Core.Path.{_≡_}
 use mathlib.Core.Bool.{cond}
 use mathlib.Core.List.{List}

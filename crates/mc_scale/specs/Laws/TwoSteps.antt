@@ -44,14 +44,17 @@ abbrev Columns : (ℕ → ℕ → Float) → List Float → List Float → ℕ �
 Columns g d work n = ByTurn nan turnOf (byPlace g) 3456 d work n
 
 -- 96 turns that leave one column each leave the whole buffer
-module _ (turn : ℕ → List Float → List Float) (g : ℕ → ℕ → Float) (d : List Float) (long : length d ≡ 3456) where
-  columns : ((work : List Float) (n : ℕ) → n < 96 → Columns g d work n → Columns g d (turn n work) (n + 1)) → (n : ℕ) → n ≤ 96 → Columns g d (turns turn n d) n
-  unfolding turns
-  columns more zero h = turn-starts (omega arith)
-  columns more (suc n) h = rw (add-one n) at (more _ n (omega arith) (columns more n (omega arith)))
+module _
+    (turn : ℕ → List Float → List Float) (g : ℕ → ℕ → Float) (d : List Float) (long : length d ≡ 3456)
+    (more : (work : List Float) (n : ℕ) → n < 96 → Columns g d work n → Columns g d (turn n work) (n + 1))
+  where
+    columns : (n : ℕ) → n ≤ 96 → Columns g d (turns turn n d) n
+    unfolding turns
+    columns zero h = turn-starts (omega arith)
+    columns (suc n) h = rw (add-one n) at (more _ n (omega arith) (columns n (omega arith)))
 
-  all-columns : ((work : List Float) (n : ℕ) → n < 96 → Columns g d work n → Columns g d (turn n work) (n + 1)) → turns turn 96 d ≡ tab (byPlace g) 3456
-  all-columns more = turn-ends (columns more 96 (omega arith)) (λ k l. omega arith) ∙ all-filled (byPlace g) 3456 d long
+    all-columns : turns turn 96 d ≡ tab (byPlace g) 3456
+    all-columns = turn-ends (columns 96 (omega arith)) (λ k l. omega arith) ∙ all-filled (byPlace g) 3456 d long
 
 module _ (steps : ℕ → ℕ → ℕ) (unscaled factor : ℕ → ℕ → ℕ → Float) where
   -- a slot of a place after each step
