@@ -1,9 +1,10 @@
 // Reads fields of at most 16 bits out of a lent string of bits: the read itself, and a reader that holds the string.
+#![tactic(auto)]
 ghost use Rattle.std.specs.Prelude.{◌≡◌, ◌≤◌, get_or};
 ghost use Rattle.bit_reader.specs.Answer.{readAt};
 
 // The value and the position of the next bit; or short, where the field passes the limit.
-#[derive(Drop)]
+#[derive(Clone, Copy)]
 pub enum BitRead {
     Value(u32, usize),
     Short,
@@ -38,7 +39,7 @@ pub fn read_bits(bytes: &[u8], limit: usize, at: usize, n: usize) -> BitRead
 }
 
 // A string of bits and a position in it.
-#[derive(Drop)]
+#[derive(Clone, Copy)]
 pub struct BitReader<'a> {
     pub bytes: &'a [u8],
     pub limit: usize,

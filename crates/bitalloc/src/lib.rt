@@ -1,10 +1,11 @@
 // The classes of quantization of Layer II: ISO/IEC 11172-3, Table B.4.
+#![tactic(auto)]
 ghost use Rattle.std.specs.Prelude.{◌≡◌, ◌<◌};
 ghost use Rattle.bitalloc.specs.Classes.{class_at, classIndex, lookupOf};
 
 // A row of Table B.4, with the number of bits of one sample. The table's samples per codeword are left out: three where
 // they are grouped, else one.
-#[derive(Drop)]
+#[derive(Clone, Copy)]
 pub struct QuantClass {
     pub nb_steps: u32,
     pub c: f64,
@@ -15,7 +16,7 @@ pub struct QuantClass {
 }
 
 // The class of a number of steps, where it has one.
-#[derive(Drop)]
+#[derive(Clone, Copy)]
 pub enum ClassLookup {
     Found(QuantClass),
     Unknown,

@@ -1,4 +1,5 @@
 // What is looked for in the output and the history of a boundary frame.
+#![tactic(auto)]
 
 mod look;
 

@@ -1,4 +1,5 @@
 // Boundary frames: strings of fields, what is lent, the frame call on it, and what it left.
+#![tactic(auto)]
 
 mod loan;
 mod run;

@@ -5,7 +5,7 @@ ghost use Rattle.boundary_run.specs.Loan.{loanOf, rampOf, stepAt, byteFrom, ones
 
 use crate::string::{Bits, bytes};
 
-#[derive(Drop)]
+#[derive(Clone, Copy)]
 pub struct Loan {
     pub head: [u8; 29],
     pub head_bits: usize,

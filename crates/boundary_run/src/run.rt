@@ -11,7 +11,7 @@ use mc_decode::frame_by_value;
 use mc_state::{Framed, McAnswer, McDecodeState};
 
 // An answer in numbers.
-#[derive(Drop)]
+#[derive(Clone, Copy)]
 pub struct Told {
     // 0 for an accepted frame, or the refusal's number
     pub number: u32,
@@ -41,7 +41,7 @@ pub fn in_numbers(answer: McAnswer) -> Told
     }
 }
 
-#[derive(Drop)]
+#[derive(Clone, Copy)]
 pub struct Found {
     pub answer: McAnswer,
     pub state: McDecodeState,

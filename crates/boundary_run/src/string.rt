@@ -3,7 +3,7 @@ ghost use Rattle.std.specs.Prelude.{◌≡◌, ◌+◌, ◌≤◌};
 ghost use Rattle.boundary_run.specs.String.{nothing, putBits, field_of, fields_of, byteOf, bytes_of};
 
 // One place for each bit, the first bit first; `at` is the next one to write. 232 is the longest head.
-#[derive(Drop)]
+#[derive(Clone, Copy)]
 pub struct Bits {
     pub bits: [u8; 232],
     pub at: usize,

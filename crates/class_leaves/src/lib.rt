@@ -1,5 +1,6 @@
 // The columns of a class for other languages. Each function takes any number of steps: of one that is no class's, it
 // answers 0, and a float answer is +0.
+#![tactic(auto)]
 ghost use Rattle.std.specs.Prelude.{◌≡◌};
 ghost use Rattle.bitalloc.specs.Classes.{class_of, cOf, dOf, bitsPerSample, bitsPerCodeword};
 ghost use Rattle.class_leaves.specs.Grouping.{groupingLeaf};

@@ -1,4 +1,5 @@
 // A cursor in a lent string of bits, which keeps its first refusal: one read, and a test.
+#![tactic(auto)]
 ghost use Rattle.std.specs.Prelude.{◌≡◌, ◌≤◌};
 ghost use Rattle.cursor.specs.Cursor.{step, refuseIf};
 
@@ -6,7 +7,7 @@ use bit_reader::{BitRead, read_field};
 
 // A position, the value that was read last, and the number of the first refusal (0: none). Code that reads on after a refusal does
 // nothing, and so needs no branches.
-#[derive(Drop)]
+#[derive(Clone, Copy)]
 pub struct Cursor {
     pub err: u32,
     pub at: usize,

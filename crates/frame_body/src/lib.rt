@@ -1,4 +1,5 @@
 // A frame call on one frame of a frame file: the body's bytes as what is lent, the layout, and the state before the first frame.
+#![tactic(auto)]
 
 mod body;
 

@@ -1,4 +1,5 @@
 // Frame files (docs/FRAME_FILE.md): the numbers, step counts and values in their bytes, and what is said of a frame in words and numbers.
+#![tactic(auto)]
 
 mod numbers;
 

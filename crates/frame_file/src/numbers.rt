@@ -34,7 +34,7 @@ pub const CALL: u32 = 4;
 pub const CARRIED: u32 = 5;
 
 // The numbers that open a frame; lengths are in bytes.
-#[derive(Drop)]
+#[derive(Clone, Copy)]
 pub struct Numbers {
     // 1: head and payload
     pub call: u8,

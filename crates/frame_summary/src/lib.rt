@@ -1,4 +1,5 @@
 // What is said of a list of values: the largest magnitude, how many are not zero, a hash, and digits for reading.
+#![tactic(auto)]
 
 mod summary;
 

@@ -8,7 +8,7 @@ use hash::hash_floats;
 // FNV-1a before the first byte.
 const HASH_START: u64 = 0xCBF29CE484222325;
 
-#[derive(Drop)]
+#[derive(Clone, Copy)]
 pub struct Summary {
     pub peak: f64,
     pub nonzero: usize,

@@ -1,4 +1,5 @@
 // Names of channels and words for refusals, as bytes of text.
+#![tactic(auto)]
 
 mod text;
 

@@ -5,7 +5,7 @@ ghost use Rattle.frame_text.specs.Text.{Spells, name_of, words_of};
 use mc_error::McError;
 
 // The first `len` bytes are the text.
-#[derive(Drop)]
+#[derive(Clone, Copy)]
 pub struct Text {
     pub bytes: [u8; 80],
     pub len: usize,

@@ -1,4 +1,5 @@
 // The test of the allocations that the head admits (refusal 8).
+#![tactic(auto)]
 
 mod allocations;
 

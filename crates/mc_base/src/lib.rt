@@ -1,4 +1,5 @@
 // One of the two lent base channels.
+#![tactic(auto)]
 ghost use Rattle.std.specs.Prelude.{◌≡◌, cond, eqb};
 ghost use Rattle.mc_base.specs.Base.{chosen};
 

@@ -1,4 +1,5 @@
 // A frame from its payload on: payload, layout, output and state.
+#![tactic(auto)]
 
 mod unpacked;
 mod write;

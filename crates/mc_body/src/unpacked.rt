@@ -21,7 +21,7 @@ use mc_state::{
 use mc_unpack::{error_of, read_mc_payload};
 
 // A frame's number of output channels, and its layout by number.
-#[derive(Drop)]
+#[derive(Clone, Copy)]
 struct FrameLayout {
     count: u8,
     number: u8,

@@ -1,4 +1,5 @@
 // The frame call and carrying on a state that is lent.
+#![tactic(auto)]
 
 mod call;
 

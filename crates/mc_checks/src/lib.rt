@@ -1,4 +1,5 @@
 // The test of what a frame call is lent, and of the values in it (refusals 6 and 7).
+#![tactic(auto)]
 
 mod checks;
 

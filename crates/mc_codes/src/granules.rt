@@ -10,7 +10,7 @@ use cursor::Cursor;
 use mc_fields::bits_if;
 
 // The bits of a place's codes, and whether each is a group code.
-#[derive(Drop)]
+#[derive(Clone, Copy)]
 struct Codeword {
     bits: u8,
     grouped: bool,
@@ -31,7 +31,7 @@ fn codeword_of(nb_steps: u32) -> Codeword
     }
 }
 
-#[derive(Drop)]
+#[derive(Clone, Copy)]
 struct Codewords {
     bits: [u8; 96],
     grouped: [bool; 96],
@@ -127,7 +127,7 @@ fn read_granule<'a>(
 }
 
 // The cursor after the granules, and by granule an LFE code and three codes to a place; 0 where there is none.
-#[derive(Drop)]
+#[derive(Clone, Copy)]
 pub struct GranuleCodes {
     pub cursor: Cursor,
     pub codes: [u16; 3468],

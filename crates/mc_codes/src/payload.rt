@@ -11,7 +11,7 @@ use crate::scalefactors::{read_lf_scalefactor, read_scalefactors};
 use cursor::Cursor;
 
 // The cursor after the scfsi codes, and the codes by place; 0 where there is none.
-#[derive(Drop)]
+#[derive(Clone, Copy)]
 pub struct ScfsiCodes {
     pub cursor: Cursor,
     pub codes: [u8; 96],
@@ -32,7 +32,7 @@ pub fn read_scfsi(bytes: &[u8], limit: usize, c: Cursor, steps: &[u32; 96]) -> S
 }
 
 // The cursor after the whole payload, and its codes.
-#[derive(Drop)]
+#[derive(Clone, Copy)]
 pub struct PayloadCodes {
     pub cursor: Cursor,
     pub scfsi: [u8; 96],

@@ -9,7 +9,7 @@ use cursor::Cursor;
 use mc_fields::bits_if;
 
 // The cursor after a predictor, its delay and its coefficient bytes.
-#[derive(Drop)]
+#[derive(Clone, Copy)]
 struct PredictorCode {
     cursor: Cursor,
     delay: u8,
@@ -36,7 +36,7 @@ fn read_predictor(bytes: &[u8], limit: usize, c: Cursor, n: u8) -> PredictorCode
 }
 
 // The cursor after the predictors, and a delay and three coefficient bytes to a predictor; 0 where there is none.
-#[derive(Drop)]
+#[derive(Clone, Copy)]
 pub struct PredictorCodes {
     pub cursor: Cursor,
     pub codes: [u8; 192],

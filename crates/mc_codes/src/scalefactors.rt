@@ -31,7 +31,7 @@ pub fn read_lf_scalefactor(bytes: &[u8], limit: usize, c: Cursor, lfe: u8) -> Cu
 }
 
 // The cursor after a place's scalefactors, and the indices of the three parts of the frame.
-#[derive(Drop)]
+#[derive(Clone, Copy)]
 struct PlaceFactors {
     cursor: Cursor,
     first: u8,
@@ -81,7 +81,7 @@ fn read_factors(bytes: &[u8], limit: usize, c: Cursor, code: u8) -> PlaceFactors
 }
 
 // The cursor after the scalefactors, and three indices to a place; 0 where there is none.
-#[derive(Drop)]
+#[derive(Clone, Copy)]
 pub struct ScalefactorCodes {
     pub cursor: Cursor,
     pub codes: [u8; 288],

@@ -71,7 +71,7 @@ fn pair_of(front: u8, surround: u8) -> u32
 }
 
 // Main channels, bits of a tc_allocation and bits of a dyn_cross_mode.
-#[derive(Drop)]
+#[derive(Clone, Copy)]
 struct Widths(usize, usize, usize);
 
 fn widths_of(pair: u32) -> Widths

@@ -23,7 +23,7 @@ pub const SECOND_LEFT: u8 = 6;
 pub const SECOND_RIGHT: u8 = 7;
 
 // The first `count` entries are the channels.
-#[derive(Drop)]
+#[derive(Clone, Copy)]
 pub struct Layout {
     pub count: usize,
     pub channels: [u8; McConfig::MAX_CHANNELS],

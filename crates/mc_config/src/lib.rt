@@ -1,4 +1,5 @@
 // What a header of the multichannel extension decides: channels and layout (ISO/IEC 13818-3, 2.5.2.13); and the readings of the transfer guide.
+#![tactic(auto)]
 
 mod config;
 mod layout;
@@ -11,7 +12,7 @@ pub use layout::{
 pub use reading::{centre_stops, phantom_of, reading_fits};
 
 // The fields of mc_header() as read: centre code 2, which the standard leaves undefined, is kept.
-#[derive(Drop)]
+#[derive(Clone, Copy)]
 pub struct McHeader {
     pub ext_bit_stream_present: bool,
     pub n_ad_bytes: u8,
@@ -28,7 +29,7 @@ pub struct McHeader {
 }
 
 // What follows from centre, surround and the number of base channels; nmch counts the channels of the extension.
-#[derive(Drop)]
+#[derive(Clone, Copy)]
 pub struct McConfig {
     pub front: u8,
     pub surround: u8,

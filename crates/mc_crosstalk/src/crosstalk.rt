@@ -41,7 +41,7 @@ const SOURCES_1: [[u8; 3]; 2] = [[T, T, T], [B, T, T]];
 const SOURCES_0: [[u8; 3]; 1] = [[T, T, T]];
 
 // The first `count` entries are the sources of the main channels; a code that is not listed is forbidden and has none.
-#[derive(Drop)]
+#[derive(Clone, Copy)]
 pub struct Sources {
     pub listed: bool,
     pub count: usize,

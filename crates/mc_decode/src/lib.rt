@@ -1,4 +1,5 @@
 // One frame on values: the state goes in and comes back by value.
+#![tactic(auto)]
 
 mod frame;
 

@@ -1,8 +1,9 @@
 // Why a frame is refused, by the Rust's names.
+#![tactic(auto)]
 ghost use Rattle.std.specs.Prelude.{◌≡◌};
 ghost use Rattle.mc_error.specs.Error.{refusalOf};
 
-#[derive(Drop)]
+#[derive(Clone, Copy)]
 pub enum McError {
     UnexpectedEnd,
     ForbiddenDynCrossMode { sbgr: usize, mode: u8 },

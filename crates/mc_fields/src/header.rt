@@ -13,7 +13,7 @@ pub fn bits_if(there: bool, n: usize) -> usize
     if there { n } else { 0 }
 }
 
-#[derive(Drop)]
+#[derive(Clone, Copy)]
 pub struct HeaderRead {
     pub cursor: Cursor,
     pub header: McHeader,

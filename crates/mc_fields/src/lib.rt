@@ -1,4 +1,5 @@
 // Reads mc_header() (ISO/IEC 13818-3, 2.5.1.13), and tests what a string may be lent as. The definition of the whole head stands in specs/.
+#![tactic(auto)]
 ghost use Rattle.std.specs.Prelude.{◌≡◌};
 ghost use Rattle.mc_fields.specs.Lent.{stringFits, baseFits};
 
@@ -7,7 +8,7 @@ mod header;
 pub use header::{HeaderRead, bits_if, read_mc_header};
 
 // mc_composite_status_info() as read; what a field of no bits would hold is 0.
-#[derive(Drop)]
+#[derive(Clone, Copy)]
 pub struct McStatus {
     pub tc_sbgr_select: bool,
     pub dyn_cross_on: bool,

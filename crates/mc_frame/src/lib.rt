@@ -1,4 +1,5 @@
 // The frame call, and a fresh state, a carried and a converted one for C.
+#![tactic(auto)]
 
 mod export;
 

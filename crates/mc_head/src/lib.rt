@@ -1,4 +1,5 @@
 // Reads a head string: mc_header(), the check word, and mc_composite_status_info() (ISO/IEC 13818-3, 2.5.1.13 to 2.5.1.15).
+#![tactic(auto)]
 ghost use Rattle.std.specs.Prelude.{◌≡◌, ◌⊎◌};
 ghost use Rattle.cursor.specs.Cursor.{run_from};
 ghost use Rattle.bits.specs.Syntax.{plain, run};
@@ -14,14 +15,14 @@ use mc_fields::{McStatus, base_fits, read_mc_header, string_fits};
 use mc_status::{first_forbidden, read_status};
 
 // The bits that the head uses, or why it is refused.
-#[derive(Drop)]
+#[derive(Clone, Copy)]
 pub enum HeadAnswer {
     Accepted(usize),
     Refused(McError),
 }
 
 // The values stand beside the answer, since no variant can hold an array; after a refusal all are zero.
-#[derive(Drop)]
+#[derive(Clone, Copy)]
 pub struct McHead {
     pub answer: HeadAnswer,
     pub header: McHeader,
@@ -64,7 +65,7 @@ impl McHead {
 }
 
 // The fields of a head up to its last bit, and its front and surround as one number.
-#[derive(Drop)]
+#[derive(Clone, Copy)]
 struct FieldsRead {
     cursor: Cursor,
     pair: u32,

@@ -1,4 +1,5 @@
 // What a payload is lent with: the test of it (refusal 6), and the settings that it makes.
+#![tactic(auto)]
 
 mod loan;
 

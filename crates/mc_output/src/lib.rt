@@ -1,4 +1,5 @@
 // The output from both base channels and work: dematrixed, and laid out by channel.
+#![tactic(auto)]
 
 mod output;
 

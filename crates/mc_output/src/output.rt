@@ -13,7 +13,7 @@ use mc_groups::sbgr_of_subband;
 use mc_payload::{McSettings, msblimit};
 
 // What the output goes by in every slot and subband.
-#[derive(Drop)]
+#[derive(Clone, Copy)]
 struct Mix {
     pair: u32,
     procedure: u8,

@@ -1,4 +1,5 @@
 // The frame call's answer as one number, and a fresh state, a carried or a converted one in place of another: what the functions for C commit.
+#![tactic(auto)]
 ghost use Rattle.std.specs.Prelude.{◌≡◌};
 ghost use Rattle.mc_base.specs.Base.{baseFrom};
 ghost use Rattle.mc_state.specs.Answer.{lent_of, buffersFrom, outcomeOf, packed, packedBy, packedOf, carryNumber, carryingBy};
@@ -25,7 +26,7 @@ fn pack(answer: McAnswer) -> u64
     }
 }
 
-#[derive(Drop)]
+#[derive(Clone, Copy)]
 pub struct PackedFrame {
     pub answer: u64,
     pub state: McDecodeState,
@@ -87,7 +88,7 @@ pub fn packed_frame<'h, 'p, 'a, 'b, 'n, 'r, 'w, 'o, 'l>(
 }
 
 // An answer, 0 or a refusal's number, and the state after it.
-#[derive(Drop)]
+#[derive(Clone, Copy)]
 pub struct Refreshed {
     pub answer: u32,
     pub state: McDecodeState,

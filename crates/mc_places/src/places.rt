@@ -8,7 +8,7 @@ use mc_crosstalk::{FROM_BASE, TRANSMITTED};
 use mc_payload::{McSettings, PHANTOM_LIMIT, msblimit};
 
 // By place, which is 3 * subband + channel.
-#[derive(Drop)]
+#[derive(Clone, Copy)]
 pub struct Places {
     pub steps: [u32; 96],
     // of samples that are in the payload

@@ -1,4 +1,5 @@
 // Predictors (ISO/IEC 13818-3, 2.5.2.15 and 2.5.3.2.1.3): how many there are under a crosstalk code, and to which channels they belong.
+#![tactic(auto)]
 ghost use Rattle.std.specs.Prelude.{◌≡◌, [], get_or};
 ghost use Rattle.mc_crosstalk.specs.Crosstalk.{predictorsOf};
 ghost use Rattle.mc_config.specs.Records.{padded};
@@ -56,7 +57,7 @@ const PREDICTABLE_2: [[u8; 3]; 5] = [[0, 1, 0], [0, 0, 0], [1, 0, 0], [0, 0, 0],
 const PREDICTABLE_1: [[u8; 3]; 2] = [[0, 0, 0], [0, 0, 0]];
 
 // The first `count` entries are the channels with predictors, in order: two predictors each.
-#[derive(Drop)]
+#[derive(Clone, Copy)]
 pub struct Channels {
     pub count: usize,
     pub channels: [u8; McConfig::MAX_NMCH],

@@ -46,7 +46,7 @@ const ROLES_22: [[u8; 3]; 4] = [[LS, RS, 0], [L, RS, 0], [LS, R, 0], [L, R, 0]];
 const ROLES_21: [[u8; 3]; 3] = [[S, 0, 0], [L, 0, 0], [R, 0, 0]];
 
 // The first `count` entries are the roles of the main channels.
-#[derive(Drop)]
+#[derive(Clone, Copy)]
 pub struct Roles {
     pub count: usize,
     pub roles: [u8; McConfig::MAX_NMCH],

@@ -1,4 +1,5 @@
 // The values that codes stand for: raw and LFE values in lent buffers.
+#![tactic(auto)]
 
 mod samples;
 

@@ -1,5 +1,6 @@
 // What a frame call keeps and answers. The definition of the call stands in specs/Frame.antt, demand 1 in specs/Demand1.antt, sequences of calls in
 // specs/Reel.antt.
+#![tactic(auto)]
 use mc_error::McError;
 
 mod carry;
@@ -13,7 +14,7 @@ pub use held::{channel_count, held_fits, layout_after, layout_follows};
 
 // What a decoder keeps from frame to frame.
 #[repr(C)]
-#[derive(Drop)]
+#[derive(Clone, Copy)]
 pub struct McDecodeState {
     // base channel, subband and place at (32 * channel + subband) * 9 + place, oldest first
     pub pred_hist: [f64; 576],
@@ -26,7 +27,7 @@ pub struct McDecodeState {
 }
 
 // The bits that head and payload use, or why the frame is refused.
-#[derive(Drop)]
+#[derive(Clone, Copy)]
 pub enum McAnswer {
     Accepted {
         head_bits: usize,
@@ -36,21 +37,21 @@ pub enum McAnswer {
 }
 
 // The answer, and the state after it.
-#[derive(Drop)]
+#[derive(Clone, Copy)]
 pub struct Framed {
     pub answer: McAnswer,
     pub state: McDecodeState,
 }
 
 // Whether a state was carried or converted, or why not.
-#[derive(Drop)]
+#[derive(Clone, Copy)]
 pub enum CarryAnswer {
     Carried,
     Refused(McError),
 }
 
 // The answer, and the state after it.
-#[derive(Drop)]
+#[derive(Clone, Copy)]
 pub struct CarriedState {
     pub answer: CarryAnswer,
     pub state: McDecodeState,

@@ -1,4 +1,5 @@
 // Reads mc_composite_status_info() (ISO/IEC 13818-3, 2.5.1.15).
+#![tactic(auto)]
 
 mod status;
 

@@ -13,7 +13,7 @@ use mc_crosstalk::dyn_cross_sources;
 use mc_fields::{McStatus, bits_if};
 use mc_predictors::npred_for;
 
-#[derive(Drop)]
+#[derive(Clone, Copy)]
 pub struct TcRead {
     pub cursor: Cursor,
     pub table: [u8; 12],
@@ -42,7 +42,7 @@ pub fn read_tc_allocation(bytes: &[u8], limit: usize, c: Cursor, once: bool, bit
     TcRead { cursor, table }
 }
 
-#[derive(Drop)]
+#[derive(Clone, Copy)]
 pub struct CrossRead {
     pub cursor: Cursor,
     pub table: [u8; 24],
@@ -72,7 +72,7 @@ pub fn read_dyn_cross(
     CrossRead { cursor, table }
 }
 
-#[derive(Drop)]
+#[derive(Clone, Copy)]
 pub struct PredictionRead {
     pub cursor: Cursor,
     pub table: [u8; 56],
@@ -149,7 +149,7 @@ pub fn first_forbidden(pair: u32, dyn_cross: &[u8; 24]) -> usize
     g
 }
 
-#[derive(Drop)]
+#[derive(Clone, Copy)]
 pub struct StatusRead {
     pub cursor: Cursor,
     pub status: McStatus,

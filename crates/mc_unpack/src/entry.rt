@@ -20,7 +20,7 @@ use mc_places::{Places, places_of};
 use mc_samples::{write_lfe, write_raw};
 
 // The bits that the payload uses, or why it is refused.
-#[derive(Drop)]
+#[derive(Clone, Copy)]
 pub enum UnpackAnswer {
     Accepted(usize),
     Refused(McError),
@@ -28,7 +28,7 @@ pub enum UnpackAnswer {
 
 // The record's tables stand beside the answer; after a refusal all are zero. Delays and coefficients are made of `predictors` by `delays`
 // and `coefs`, which return arrays of arrays: these stand in no struct.
-#[derive(Drop)]
+#[derive(Clone, Copy)]
 pub struct Unpacked {
     pub answer: UnpackAnswer,
     pub scfsi: [u8; 96],
@@ -67,7 +67,7 @@ impl Unpacked {
 }
 
 // A payload as decided: the places that it was read for, and its codes or its refusal.
-#[derive(Drop)]
+#[derive(Clone, Copy)]
 pub struct McPayload {
     pub places: Places,
     pub codes: PayloadCodes,

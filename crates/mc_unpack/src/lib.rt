@@ -1,4 +1,5 @@
 // Reads a payload string (ISO/IEC 13818-3, 2.5.1.17): allocations, then codes, then raw and LFE values.
+#![tactic(auto)]
 
 mod entry;
 

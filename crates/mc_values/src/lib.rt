@@ -1,4 +1,5 @@
 // Delays and coefficients of the predictors.
+#![tactic(auto)]
 
 mod values;
 

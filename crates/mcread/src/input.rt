@@ -21,7 +21,7 @@ const REFUSED: u32 = 1;
 const BAD_FILE: u32 = 2;
 
 // The state after a frame, what became of the frame, and the desk that it names.
-#[derive(Drop)]
+#[derive(Clone, Copy)]
 struct Step {
     state: McDecodeState,
     kind: u32,

@@ -1,13 +1,14 @@
 // What an unpacked record leaves in lent buffers, and its answer as one number.
+#![tactic(auto)]
 ghost use Rattle.std.specs.Prelude.{◌≡◌};
 ghost use Rattle.mc_error.specs.Error.{refusalOf};
 ghost use Rattle.part_tables.specs.Parts.{packedRefusal};
 
 use mc_error::McError;
 
-mod tables;
+mod pack;
 
-pub use tables::{pack_tables, write_tables};
+pub use pack::{pack_tables, write_tables};
 
 // A refusal as one number.
 pub fn pack_refusal(e: McError) -> u64

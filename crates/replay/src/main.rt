@@ -1,4 +1,5 @@
 // Runs a list of frames with the oracle's answers through the frame call and compares every output bit, by hashes.
+#![tactic(auto)]
 ghost use Rattle.std.specs.Prelude.{◌≡◌, eqb};
 ghost use Rattle.encoding.specs.Encoding.{number_at};
 
@@ -13,7 +14,7 @@ use replay_list::Tally;
 const NAME: u64 = 0x59414C504552434D;
 
 // What one frame of the list leaves: whether the list had it whole, the state and the counts.
-#[derive(Drop)]
+#[derive(Clone, Copy)]
 struct Turn {
     whole: bool,
     state: McDecodeState,

@@ -1,4 +1,5 @@
 // A list of frames to be replayed: what an opening describes, what a frame left as hashes, their comparison and the counts.
+#![tactic(auto)]
 
 mod opening;
 mod outcome;

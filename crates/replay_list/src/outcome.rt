@@ -10,7 +10,7 @@ use mc_state::{McAnswer, McDecodeState};
 const EMPTY_HASH: u64 = 0xCBF29CE484222325;
 
 // The packed answer, and the hashes of the four buffers and of the state.
-#[derive(Drop)]
+#[derive(Clone, Copy)]
 pub struct Outcome {
     pub answer: u64,
     pub raw: u64,
@@ -121,7 +121,7 @@ pub fn listed(opening: &[u8]) -> Outcome
 }
 
 // Which of the six numbers differ.
-#[derive(Drop)]
+#[derive(Clone, Copy)]
 pub struct Differences {
     pub answer: bool,
     pub raw: bool,

@@ -2,7 +2,7 @@
 ghost use Rattle.std.specs.Prelude.{◌≡◌};
 ghost use Rattle.replay_list.specs.Outcome.{answeredOf, talliedOf};
 
-#[derive(Drop)]
+#[derive(Clone, Copy)]
 pub struct Tally {
     pub frames: u64,
     // accepted frames, then those of each refusal by its number

@@ -1,4 +1,5 @@
 // Three reads at once, out of one window of eight bytes.
+#![tactic(auto)]
 ghost use Rattle.std.specs.Prelude.{◌≡◌, true, ◌+◌, ◌-◌, ◌*◌, ◌/◌, ◌%◌, ◌^◌, ◌≤◌, length};
 ghost use Rattle.bits.specs.Bits.{value_at};
 ghost use Rattle.window.specs.Three.{Wide, threeSteps};
@@ -47,7 +48,7 @@ fn field_of(window: u64, o: usize, n: usize) -> u32
 }
 
 // The values of two reads, and the cursor after a third.
-#[derive(Drop)]
+#[derive(Clone, Copy)]
 pub struct ThreeReads {
     pub first: u32,
     pub second: u32,

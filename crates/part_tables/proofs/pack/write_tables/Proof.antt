@@ -1,8 +1,8 @@
 -- `part_tables::tables::write_tables` meets its contract.
 use Rattle.part_tables.specs.PayloadLaws.{writes-accepted, writes-refused}
 use borrow.Author.Rules.{rules}
-use Rattle.part_tables.proofs.tables.write_tables.Statement.{statement}
-use Rattle.part_tables.proofs.tables.write_tables.Tie as tie
+use Rattle.part_tables.proofs.pack.write_tables.Statement.{statement}
+use Rattle.part_tables.proofs.pack.write_tables.Tie as tie
 
 enum_told : tie.Need-enum-told
 enum_told c = search rules

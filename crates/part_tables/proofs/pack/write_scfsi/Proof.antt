@@ -5,8 +5,8 @@ use native.Mathlib.Omega.{arith}
 use Rattle.fill.specs.InOrder.{Filling, starts, more, ends-all}
 use lib.ListN.{get_or}
 use Rattle.part_tables.specs.Payload.{entries}
-use Rattle.part_tables.proofs.tables.write_scfsi.Statement.{statement}
-use Rattle.part_tables.proofs.tables.write_scfsi.Tie as tie
+use Rattle.part_tables.proofs.pack.write_scfsi.Statement.{statement}
+use Rattle.part_tables.proofs.pack.write_scfsi.Tie as tie
 
 abbrev invariant-loop : tie.invariant-loop
 invariant-loop table out₀ k₀ out k = Filling (λ (j : ℕ). get_or table j 0) 96 out₀ out k

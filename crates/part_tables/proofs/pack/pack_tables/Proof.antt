@@ -1,8 +1,8 @@
 -- `part_tables::tables::pack_tables` meets its contract.
 use Rattle.part_tables.specs.PayloadLaws.{packs-accepted, packs-refused}
 use borrow.Author.Rules.{rules}
-use Rattle.part_tables.proofs.tables.pack_tables.Statement.{statement}
-use Rattle.part_tables.proofs.tables.pack_tables.Tie as tie
+use Rattle.part_tables.proofs.pack.pack_tables.Statement.{statement}
+use Rattle.part_tables.proofs.pack.pack_tables.Tie as tie
 
 enum-known-answer : tie.Need-enum-known-answer
 enum-known-answer c = search rules
