@@ -1,0 +1,33 @@
+-- `bits::read_bits` meets its contract.
+use Prim.Native.Nat.{◌+◌}
+use native.Mathlib.Omega.{arith}
+use lib.Pow.{pow_pos}
+use borrow.Author.Rules.{rules}
+use borrow.Author.Tests.{le-leb, lt-leb}
+use Rattle.bit_reader.specs.Answer.{readAt}
+use Rattle.bit_reader.proofs.Window.{computed, one_shl}
+use Rattle.bit_reader.proofs.read_bits.Goals as goal
+
+pub returns-then-limit-n : goal.returns-then-limit-n
+unfolding readAt
+returns-then-limit-n c =
+    let a = c.args in
+    simp (lt-leb (a.at + a.n) a.limit (omega arith))
+
+pub returns-then-limit-n-2 : goal.returns-then-limit-n-2
+unfolding readAt
+returns-then-limit-n-2 c =
+    let a = c.args in
+    simp (lt-leb (a.at + a.n) a.limit (omega arith))
+
+pub nonzero_rem-value : goal.nonzero_rem-value
+nonzero_rem-value c =
+    let n = c.args.n in
+    omega (arith, pow_pos n, one_shl n (omega arith))
+
+pub returns : goal.returns
+unfolding readAt
+returns c =
+    let a = c.args in
+    simp
+    (le-leb (a.at + a.n) a.limit (omega arith), computed a.bytes.now a.at a.n _ _ _ (omega arith) c.byte_at.ensures c.byte_at-2.ensures c.byte_at-3.ensures)

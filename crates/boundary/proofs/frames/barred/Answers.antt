@@ -1,0 +1,6 @@
+-- `boundary::frames::barred` meets its contract.
+use borrow.Author.Rules.{rules}
+use Rattle.boundary.proofs.frames.barred.Goals as goal
+
+pub returns : goal.returns
+returns c = rw (c.new-loan.ensures, c.plain_head.ensures, c.first_steps-steps.ensures)

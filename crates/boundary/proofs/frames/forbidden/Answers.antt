@@ -1,0 +1,6 @@
+-- `boundary::frames::forbidden` meets its contract.
+use borrow.Author.Rules.{rules}
+use Rattle.boundary.proofs.frames.forbidden.Goals as goal
+
+pub returns : goal.returns
+returns c = rw (c.new.ensures, c.crossed_head.ensures)

@@ -1,0 +1,6 @@
+-- `boundary::frames::layer_three` meets its contract.
+use borrow.Author.Rules.{rules}
+use Rattle.boundary.proofs.frames.layer_three.Goals as goal
+
+pub returns : goal.returns
+returns c = rw (c.new.ensures, c.plain_head.ensures)

@@ -1,0 +1,8 @@
+-- `boundary::heads::plain_head` meets its contract.
+use Rattle.boundary.specs.Heads.{written, plainHead}
+use borrow.Author.Rules.{rules}
+use Rattle.boundary.proofs.heads.plain_head.Goals as goal
+
+pub returns : goal.returns
+unfolding written plainHead
+returns c = rw (c.field-5.ensures, c.field-4.ensures, c.field-3.ensures, c.field-2.ensures, c.field.ensures, c.header.ensures, c.field-start.ensures, c.new.ensures)

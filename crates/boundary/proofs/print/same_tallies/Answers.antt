@@ -1,0 +1,19 @@
+-- `boundary::print::same_tallies` meets its contract: before a desk the flag is the test of the desks below it.
+use mathlib.Core.Path.{◌≡◌, refl}
+use Prim.Native.Nat.{◌-◌, ◌≤◌}
+use native.Mathlib.Omega.{arith}
+use borrow.Author.Rules.{rules}
+use lib.Dec.{eqb}
+use Rattle.fill.specs.Each.{each}
+use Rattle.fill.specs.EachLaws.{each_start, each_next, each-end}
+use Rattle.mc_state.specs.Desk.{tallyAt}
+use Rattle.boundary.proofs.print.same_tallies.Goals as goal
+
+pub loop-desk-init : goal.loop-desk-init
+loop-desk-init c = (omega arith, each_start _)
+
+pub loop-desk-preserved : goal.loop-desk-preserved
+loop-desk-preserved c = (omega arith, each_next _ _ _ _ c.loop-desk.invariant.1 refl)
+
+pub returns : goal.returns
+returns c = each-end _ _ _ _ c.loop-desk.invariant.1 c.loop-desk.invariant.0 (omega arith)

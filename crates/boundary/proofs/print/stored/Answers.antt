@@ -1,0 +1,10 @@
+-- `boundary::print::stored` meets its contract, for one base channel and for two.
+use Rattle.boundary_run.specs.RunLaws.{stored-mono, stored-stereo}
+use borrow.Author.Rules.{rules}
+use Rattle.boundary.proofs.print.stored.Goals as goal
+
+pub returns-then-loan-eq1 : goal.returns-then-loan-eq1
+returns-then-loan-eq1 c = let s = c in stored-mono s.args.loan _ _ _ c.if-loan-eq1.true s.ramp-left.ensures c.is_stored.ensures
+
+pub returns : goal.returns
+returns c = let s = c in stored-stereo s.args.loan _ _ _ _ c.if-loan-eq1.false s.ramp-left.ensures c.ramp-right.ensures c.is_stored-2.ensures

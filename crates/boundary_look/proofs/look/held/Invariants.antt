@@ -1,0 +1,16 @@
+-- `boundary_look::look::held` meets its contract: before each slot the flags are the tests of the slots before it.
+use Prim.Native.Nat.{◌-◌, ◌≤◌}
+use mathlib.Core.Path.{◌≡◌, sym, ◌∙◌}
+use native.Mathlib.Omega.{arith}
+use borrow.Author.Rules.{rules}
+use Rattle.fill.specs.Each.{each}
+use Rattle.boundary_look.specs.Look.{zerosAt, basesAt}
+use Rattle.fill.specs.EachLaws.{each_start, each_next, each-end}
+use Rattle.boundary_look.specs.LookLaws.{held-zeros, held-bases, held-others}
+use Rattle.boundary_look.proofs.look.held.Given as goal
+
+abbrev pub invariant-loop-slot : goal.invariant-loop-slot
+invariant-loop-slot l = (l.slot ≤ 36) × (l.zeros ≡ each (zerosAt l.output l.subband) l.slot) × (l.bases ≡ each (basesAt l.output l.base l.subband) l.slot)
+
+abbrev pub decreases-loop-slot : goal.decreases-loop-slot
+decreases-loop-slot l = 36 - l.slot

@@ -1,0 +1,16 @@
+-- `boundary_run::loan::payload_from` meets its contract. The loop fills the list in order.
+use Prim.Native.Nat.{◌-◌}
+use native.Mathlib.Omega.{arith}
+use borrow.Author.Rules.{rules}
+use Rattle.fill.specs.InOrder.{Filling, starts, more, ends-all}
+use Rattle.boundary_run.specs.Loan.{byteFrom}
+use Rattle.boundary_run.proofs.loan.payload_from.Goals as goal
+
+pub loop-k-init : goal.loop-k-init
+loop-k-init c = starts (search rules)
+
+pub loop-k-preserved : goal.loop-k-preserved
+loop-k-preserved c = more c.loop-k.invariant (omega arith) c.byte_from.ensures
+
+pub returns : goal.returns
+returns c = ends-all c.loop-k.invariant (omega arith) (search rules)

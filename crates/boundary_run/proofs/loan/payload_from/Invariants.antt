@@ -1,0 +1,13 @@
+-- `boundary_run::loan::payload_from` meets its contract. The loop fills the list in order.
+use Prim.Native.Nat.{◌-◌}
+use native.Mathlib.Omega.{arith}
+use borrow.Author.Rules.{rules}
+use Rattle.fill.specs.InOrder.{Filling, starts, more, ends-all}
+use Rattle.boundary_run.specs.Loan.{byteFrom}
+use Rattle.boundary_run.proofs.loan.payload_from.Given as goal
+
+abbrev pub invariant-loop-k : goal.invariant-loop-k
+invariant-loop-k l = Filling (byteFrom l.start) 6892 l.initial.out l.out l.k
+
+abbrev pub decreases-loop-k : goal.decreases-loop-k
+decreases-loop-k l = 6892 - l.k

@@ -1,0 +1,17 @@
+-- `boundary_run::loan::ramp` meets its contract. The loop fills the list in order.
+use Prim.Native.Nat.{◌-◌}
+use mathlib.Core.Path.{refl}
+use native.Mathlib.Omega.{arith}
+use borrow.Author.Rules.{rules}
+use Rattle.fill.specs.InOrder.{Filling, starts, more, ends-all}
+use Rattle.boundary_run.specs.Loan.{rampAt}
+use Rattle.boundary_run.proofs.loan.ramp.Goals as goal
+
+pub loop-k-init : goal.loop-k-init
+loop-k-init c = starts (search rules)
+
+pub loop-k-preserved : goal.loop-k-preserved
+loop-k-preserved c = more c.loop-k.invariant (omega arith) refl
+
+pub returns : goal.returns
+returns c = ends-all c.loop-k.invariant (omega arith) (search rules)

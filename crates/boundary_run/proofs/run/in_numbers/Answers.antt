@@ -1,0 +1,10 @@
+-- `boundary_run::run::in_numbers` meets its contract, case by case.
+use Rattle.boundary_run.specs.ToldLaws.{told-accepted, told-refused}
+use borrow.Author.Rules.{rules}
+use Rattle.boundary_run.proofs.run.in_numbers.Goals as goal
+
+pub returns-in-Accepted : goal.returns-in-Accepted
+returns-in-Accepted c = told-accepted _ _ _ c.answer-1.given.1
+
+pub returns-in-Refused : goal.returns-in-Refused
+returns-in-Refused c = told-refused _ _ _ _ _ c.answer-in-Refused-1.given.1 c.number.ensures c.group.ensures c.code.ensures

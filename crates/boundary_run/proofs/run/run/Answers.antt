@@ -1,0 +1,35 @@
+-- `boundary_run::run::run` meets its contract.
+use mathlib.Core.Path.{sym, ap, ◌∙◌}
+use Prim.Native.Nat.{◌+◌, ◌≤◌}
+use native.Mathlib.Omega.{arith}
+use lib.ListN.{length}
+use lib.Seq.{length-take-le}
+use Rattle.fill.specs.TabLaws.{length-tab}
+use Rattle.boundary_run.specs.Loan.{rampAt}
+use borrow.Author.Rules.{rules}
+use Rattle.boundary_run.specs.Run.{afterRun}
+use Rattle.boundary_run.specs.RunLaws.{is-run, found-is}
+use Rattle.boundary_run.proofs.run.run.Goals as goal
+
+pub slice_bounds-call-end-2 : goal.slice_bounds-call-end-2
+slice_bounds-call-end-2 c =
+    let q = c in
+    let l = ap length q.ramp-right.ensures ∙ length-tab (rampAt _) 1152 in
+    sym (length-take-le q.second_length-n.result q.ramp-right.result (omega (arith, l, q.second_length-n.ensures.1)))
+
+pub slice_bounds-call-end-3 : goal.slice_bounds-call-end-3
+slice_bounds-call-end-3 c =
+    let h : 32 + c.second_length-m.result ≤ 64 = omega (arith, c.second_length-m.ensures.1) in
+    sym (length-take-le _ _ h)
+
+pub returns : goal.returns
+returns c =
+    let s = c in
+    let n = s.before in
+    let a = n.before.before.before.before.args in
+    found-is (afterRun a.loan a.state) s.call-framed.result _ _ _ _ _ _ _ _
+    (is-run a.loan a.state _ _ _ _ _ n.before.before.before.ramp.ensures n.before.before.ramp2.ensures n.before.second-length.ensures.0 n.second-length2.ensures.0 s.call-framed.ensures)
+    c.all_are.ensures
+    c.all_are-2.ensures
+    c.all_are-3.ensures
+    c.all_are-4.ensures

@@ -1,0 +1,14 @@
+-- `boundary_run::string::byte` meets its contract: at k the value is that of the first k places.
+use Prim.Native.Nat.{◌≤◌, ◌<◌, ◌-◌}
+use mathlib.Core.Path.{◌≡◌, refl, ap, ◌∙◌}
+use native.Mathlib.Omega.{arith}
+use borrow.Author.Rules.{rules}
+use Rattle.boundary_run.specs.String.{byteOf}
+use Rattle.boundary_run.specs.StringLaws.{byte_more}
+use Rattle.boundary_run.proofs.string.byte.Given as goal
+
+abbrev pub invariant-loop-k : goal.invariant-loop-k
+invariant-loop-k l = (l.k ≤ 8) × (l.value < 256) × (l.value ≡ byteOf l.bits l.first l.k)
+
+abbrev pub decreases-loop-k : goal.decreases-loop-k
+decreases-loop-k l = 8 - l.k

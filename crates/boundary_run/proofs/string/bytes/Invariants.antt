@@ -1,0 +1,13 @@
+-- `boundary_run::string::bytes` meets its contract. The loop fills the list in order.
+use Prim.Native.Nat.{ℕ, ◌*◌, ◌-◌}
+use native.Mathlib.Omega.{arith}
+use borrow.Author.Rules.{rules}
+use Rattle.fill.specs.InOrder.{Filling, starts, more, ends-all}
+use Rattle.boundary_run.specs.String.{byteOf}
+use Rattle.boundary_run.proofs.string.bytes.Given as goal
+
+abbrev pub invariant-loop-k : goal.invariant-loop-k
+invariant-loop-k l = Filling (λ (j : ℕ). byteOf l.bits (8 * j) 8) 29 l.initial.out l.out l.k
+
+abbrev pub decreases-loop-k : goal.decreases-loop-k
+decreases-loop-k l = 29 - l.k

@@ -1,0 +1,15 @@
+-- `boundary_run::string::put` meets its contract: what is left to put into the places so far is the whole.
+use mathlib.Core.Path.{◌≡◌, refl, sym, ◌∙◌}
+use Prim.Native.Nat.{◌≤◌}
+use native.Mathlib.Omega.{arith}
+use lib.ListN.{length, length-set}
+use borrow.Author.Rules.{rules}
+use Rattle.boundary_run.specs.String.{putBits}
+use Rattle.boundary_run.specs.StringLaws.{put_one, put-none}
+use Rattle.boundary_run.proofs.string.put.Given as goal
+
+abbrev pub invariant-loop-left : goal.invariant-loop-left
+invariant-loop-left l = (l.left ≤ l.n) × (length l.out ≡ length l.initial.out) × (putBits l.initial.out l.at l.n l.value ≡ putBits l.out l.at l.left l.rest)
+
+abbrev pub decreases-loop-left : goal.decreases-loop-left
+decreases-loop-left l = l.left

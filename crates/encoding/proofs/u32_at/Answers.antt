@@ -1,0 +1,8 @@
+-- `encoding::u32_at` meets its contract: four bytes fit.
+use native.Mathlib.Omega.{arith}
+use Rattle.encoding.specs.EncodingLaws.{four-fits}
+use borrow.Author.Rules.{rules}
+use Rattle.encoding.proofs.u32_at.Goals as goal
+
+pub overflow_cast-result : goal.overflow_cast-result
+overflow_cast-result c = omega (arith, c.number_at.ensures, four-fits c.args.bytes.now c.args.at c.shared_slice_known-1.given)

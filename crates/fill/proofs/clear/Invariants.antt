@@ -1,0 +1,14 @@
+-- `clear` meets its contract.
+use mathlib.Core.Path.{refl}
+use Prim.Native.Nat.{ℕ, ◌-◌}
+use native.Mathlib.Omega.{arith}
+use lib.ListN.{length}
+use Rattle.fill.specs.InOrder.{Filling, starts, more, ends-all}
+use Rattle.floats.specs.Binary64.{zero64}
+use Rattle.fill.proofs.clear.Given as goal
+
+abbrev pub invariant-loop-k : goal.invariant-loop-k
+invariant-loop-k l = Filling (λ (j : ℕ). zero64) (length l.initial.values) l.initial.values l.values l.k
+
+abbrev pub decreases-loop-k : goal.decreases-loop-k
+decreases-loop-k l = length l.initial.values - l.k

@@ -1,0 +1,16 @@
+-- `frame_file::numbers::fill_values` meets its contract. The loop fills the values in order.
+use Prim.Native.Nat.{◌-◌}
+use native.Mathlib.Omega.{arith}
+use borrow.Author.Rules.{rules}
+use mathlib.Core.Path.{ap, ◌∙◌}
+use lib.Ieee.{of_bits, binary64}
+use lib.ListN.{length}
+use Rattle.fill.specs.InOrder.{Filling, starts, more, ends-all}
+use Rattle.frame_file.specs.File.{value_at}
+use Rattle.frame_file.proofs.numbers.fill_values.Given as goal
+
+abbrev pub invariant-loop-k : goal.invariant-loop-k
+invariant-loop-k l = Filling (value_at l.bytes l.at) (length l.initial.out) l.initial.out l.out l.k
+
+abbrev pub decreases-loop-k : goal.decreases-loop-k
+decreases-loop-k l = length l.initial.out - l.k

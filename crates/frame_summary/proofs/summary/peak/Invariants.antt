@@ -1,0 +1,13 @@
+-- `frame_summary::summary::peak` meets its contract. The largest magnitude from here on, with what was found, stays the same.
+use Rattle.std.proofs.Common.{◌≡◌, ◌+◌, ◌-◌, length, drop, sym, refl, ap, ◌∙◌, ⊎_elim, arith, rules}
+use lib.Ieee.{Float}
+use Rattle.frame_summary.specs.Summary.{peakFrom, larger, magnitude}
+use Rattle.frame_summary.specs.SummaryLaws.{peak-more, peak-none, larger-is, larger-not}
+use Rattle.floats.specs.Binary64.{zero64}
+use Rattle.frame_summary.proofs.summary.peak.Given as goal
+
+abbrev pub invariant-loop-i : goal.invariant-loop-i
+invariant-loop-i l = peakFrom l.most (drop l.i l.xs) ≡ peakFrom zero64 l.xs
+
+abbrev pub decreases-loop-i : goal.decreases-loop-i
+decreases-loop-i l = length l.xs - l.i

@@ -1,0 +1,11 @@
+-- `encoding::hash_number` meets its contract. The hash of the bytes that are left stays the same.
+use Rattle.std.proofs.Common.{◌≡◌, ℕ, ◌-◌, ◌/◌, sym, refl, ap, ◌∙◌, arith, rules}
+use Rattle.encoding.specs.Encoding.{hashBytes}
+use Rattle.encoding.specs.EncodingLaws.{hash-more, hash-none}
+use Rattle.hash.proofs.hash_number.Given as goal
+
+abbrev pub invariant-loop-left : goal.invariant-loop-left
+invariant-loop-left l = hashBytes l.left l.hash l.rest ≡ hashBytes 8 l.h l.n
+
+abbrev pub decreases-loop-left : goal.decreases-loop-left
+decreases-loop-left l = l.left

@@ -1,0 +1,60 @@
+-- `leaves::mc_leaf_degroup` meets its contract: each return answers what `degroupLeaf` picks by the tests that led there.
+use mathlib.Core.Path.{◌≡◌, sym, ap, ◌∙◌, subst}
+use mathlib.Core.Bool.{Bool, true, false, not}
+use Prim.Native.Nat.{ℕ, ◌^◌, ◌≤◌, ◌<◌}
+use native.Mathlib.Omega.{arith}
+use lib.Dec.{T, ltb}
+use borrow.Author.Rules.{rules}
+use borrow.Author.Tests.{not-true, not-false}
+use Rattle.bitalloc.specs.declared.QuantClass.{QuantClass}
+use Rattle.bitalloc.specs.Classes.{isClass, class_of, grouped, bitsPerCodeword}
+use Rattle.bitalloc.specs.Places.{class-steps, class-grouped}
+use Rattle.bitalloc.specs.Rules.{steps-rules, group-steps}
+use Rattle.requant.specs.Requant.{degrouped}
+use Rattle.leaves.specs.Leaves.{packed, degroupLeaf}
+use Rattle.leaves.proofs.mc_leaf_degroup.Goals as goal
+
+module _ (steps : ℕ) (class : QuantClass) (r : class ≡ class_of steps) where
+  group : (t : Bool) → class.grouping ≡ t → grouped steps ≡ t
+  group t g = ap (λ (q : QuantClass). q.grouping) (sym r) ∙ g
+
+  single : (combined : ℕ) → not class.grouping ≡ true → 0 ≡ degroupLeaf steps combined
+  single combined g = simp (group false (not-true _ g))
+
+  module _ (g : not class.grouping ≡ false) where
+    known : T (isClass steps)
+    known = class-grouped steps (group true (not-false _ g))
+
+    short : class.bits_per_codeword ≤ 16
+    short = subst (λ (q : QuantClass). q.bits_per_codeword ≤ 16) (sym r) (steps-rules steps known).codeword-high
+
+    few : (0 < steps) × (steps ≤ 9)
+    few =
+        let low = (steps-rules steps known).steps_low in
+        let high = group-steps (class_of steps) (steps-rules steps known) (group true (not-false _ g)) in
+        subst (λ (n : ℕ). (0 < n) × (n ≤ 9)) (class-steps steps known) (omega arith, high)
+
+    module _ (combined : ℕ) (b : Bool) (f : b ≡ ltb combined (2 ^ class.bits_per_codeword)) where
+      test : (t : Bool) → b ≡ t → ltb combined (2 ^ bitsPerCodeword steps) ≡ t
+      test t i = ap (λ (q : QuantClass). ltb combined (2 ^ q.bits_per_codeword)) (sym r) ∙ sym f ∙ i
+
+      inside : (x : ℕ) → b ≡ true → x ≡ packed (degrouped steps combined) → x ≡ degroupLeaf steps combined
+      inside x t i = simp (group true (not-false _ g), test true t) i
+
+      outside : b ≡ false → 0 ≡ degroupLeaf steps combined
+      outside t = simp (group true (not-false _ g), test false t)
+
+pub returns-then-not-grouping : goal.returns-then-not-grouping
+returns-then-not-grouping c = search single
+
+pub has_bits-requires : goal.has_bits-requires
+has_bits-requires c = search short
+
+pub degroup_packed-requires : goal.degroup_packed-requires
+degroup_packed-requires c = few _ _ c.class_or_zero-class.ensures c.if-not-grouping.false
+
+pub returns-then-has_bits : goal.returns-then-has_bits
+returns-then-has_bits c = search inside
+
+pub returns-else-has_bits : goal.returns-else-has_bits
+returns-else-has_bits c = search outside

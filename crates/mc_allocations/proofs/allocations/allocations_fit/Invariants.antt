@@ -1,0 +1,17 @@
+-- `allocations::allocations_fit` meets its contract.
+use mathlib.Core.Path.{◌≡◌}
+use mathlib.Core.Bool.{true}
+use Prim.Native.Nat.{◌-◌, ◌≤◌}
+use native.Mathlib.Omega.{arith}
+use borrow.Author.Rules.{rules}
+use Rattle.fill.specs.Each.{each}
+use Rattle.mc_allocations.specs.AllocationsBy.{allocationAt}
+use Rattle.fill.specs.EachLaws.{each_none, each_left, each_on, each_all}
+use Rattle.mc_allocations.specs.AllocationsLaws.{allocations-refused, allocations-none, allocations-lfe}
+use Rattle.mc_allocations.proofs.allocations.allocations_fit.Given as goal
+
+abbrev pub invariant-loop-k : goal.invariant-loop-k
+invariant-loop-k l = (l.k ≤ 96) × (each (allocationAt l.s.nb_steps l.own) l.k ≡ true)
+
+abbrev pub decreases-loop-k : goal.decreases-loop-k
+decreases-loop-k l = 96 - l.k

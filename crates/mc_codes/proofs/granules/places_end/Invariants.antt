@@ -1,0 +1,15 @@
+-- `granules::places_end` meets its contract.
+use mathlib.Core.Path.{◌≡◌}
+use mathlib.Core.Logic.{⊎_elim}
+use mathlib.Core.List.{List}
+use Prim.Native.Nat.{ℕ, ◌+◌, ◌-◌, ◌≤◌, ◌<◌}
+use native.Mathlib.Nat.{eq-or-lt_of_le}
+use native.Mathlib.Omega.{arith}
+use lib.ListN.{get_or}
+use Rattle.mc_codes.proofs.granules.places_end.Given as goal
+
+abbrev pub invariant-loop-i : goal.invariant-loop-i
+invariant-loop-i l = (l.i ≤ 96) × (l.end ≤ l.i) × ((k : ℕ) → l.end ≤ k → k < l.i → get_or l.own k 0 ≡ 0)
+
+abbrev pub decreases-loop-i : goal.decreases-loop-i
+decreases-loop-i l = 96 - l.i

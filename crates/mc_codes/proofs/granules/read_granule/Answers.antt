@@ -1,0 +1,40 @@
+-- `granules::read_granule` meets its contract.
+use mathlib.Core.Path.{◌≡◌, refl}
+use mathlib.Core.Logic.{⊎_elim}
+use Prim.Native.Nat.{◌-◌, ◌≤◌}
+use native.Mathlib.Omega.{arith}
+use lib.ListN.{length, length-set}
+use borrow.Author.Rules.{rules}
+use Rattle.bits.specs.Syntax.{times}
+use Rattle.cursor.specs.Cursor.{run_from}
+use Rattle.cursor.specs.CursorLaws.{cur-fits}
+use Rattle.mc_payload.specs.Payload.{samplesAt}
+use Rattle.mc_codes.proofs.GranulesRead.{kept-length, lfe-width, width-below, samples-read, samples-skip, granule-end}
+use Rattle.mc_codes.proofs.granules.read_granule.Goals as goal
+
+pub read-cursor-requires : goal.read-cursor-requires
+read-cursor-requires c = search (lfe-width, rules)
+
+pub overflow_cast-codes : goal.overflow_cast-codes
+overflow_cast-codes c = search (cur-fits, lfe-width, rules)
+
+pub loop-i-init : goal.loop-i-init
+loop-i-init c = (omega arith, c.requires.widths_value.2.most, simp length-set (omega arith), refl)
+
+pub read_samples-cursor-requires : goal.read_samples-cursor-requires
+read_samples-cursor-requires c = (search width-below, omega arith)
+
+pub loop-i-preserved : goal.loop-i-preserved
+loop-i-preserved c =
+    let l = c.loop-i in
+    let s = c in
+    let read = samples-read s.args.bytes.now s.args.limit s.args.own.now s.args.gr _ l.cursor l.i l.codes l.invariant.3 s.args.end c.loop-i-test.true l.invariant.1 in
+    let skip = samples-skip s.args.bytes.now s.args.limit s.args.own.now s.args.gr _ l.cursor l.i l.codes l.invariant.3 s.args.end c.loop-i-test.true l.invariant.1 in (
+      omega arith,
+      l.invariant.1,
+      ⊎_elim (λ w. search kept-length) (λ w. search kept-length) c.if-own-i-ne0.branch-raw,
+      ⊎_elim (λ w. read _ _ w.0.taken _ s.requires.widths_value.0 _ s.requires.widths_value.1 _ _ w.4.ensures w.7 w.8) (λ w. skip _ _ w.0.left w.1 w.2) c.if-own-i-ne0.branch-raw,
+    )
+
+pub returns : goal.returns
+returns c = search granule-end

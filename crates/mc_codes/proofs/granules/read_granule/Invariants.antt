@@ -1,0 +1,19 @@
+-- `granules::read_granule` meets its contract.
+use mathlib.Core.Path.{◌≡◌, refl}
+use mathlib.Core.Logic.{⊎_elim}
+use Prim.Native.Nat.{◌-◌, ◌≤◌}
+use native.Mathlib.Omega.{arith}
+use lib.ListN.{length, length-set}
+use borrow.Author.Rules.{rules}
+use Rattle.bits.specs.Syntax.{times}
+use Rattle.cursor.specs.Cursor.{run_from}
+use Rattle.cursor.specs.CursorLaws.{cur-fits}
+use Rattle.mc_payload.specs.Payload.{samplesAt}
+use Rattle.mc_codes.proofs.GranulesRead.{kept-length, lfe-width, width-below, samples-read, samples-skip, granule-end}
+use Rattle.mc_codes.proofs.granules.read_granule.Given as goal
+
+abbrev pub invariant-loop-i : goal.invariant-loop-i
+invariant-loop-i l = (l.i ≤ l.end) × (l.end ≤ 96) × (length l.codes ≡ 3468) × (run_from l.bytes l.limit l.initial.cursor (times 96 0 (samplesAt l.own l.gr) l.initial.codes) ≡ run_from l.bytes l.limit l.cursor (times (96 - l.i) l.i (samplesAt l.own l.gr) l.codes))
+
+abbrev pub decreases-loop-i : goal.decreases-loop-i
+decreases-loop-i l = l.end - l.i

@@ -1,0 +1,17 @@
+-- `granules::read_granules` meets its contract.
+use mathlib.Core.Path.{◌≡◌, refl}
+use Prim.Native.Nat.{◌-◌, ◌≤◌}
+use native.Mathlib.Omega.{arith}
+use lib.ListN.{length}
+use borrow.Author.Rules.{rules}
+use Rattle.bits.specs.Syntax.{times}
+use Rattle.cursor.specs.Cursor.{run_from}
+use Rattle.mc_payload.specs.Payload.{granuleAt, granules}
+use Rattle.mc_codes.proofs.GranulesRead.{kept-length, granules-next, granules-end}
+use Rattle.mc_codes.proofs.granules.read_granules.Given as goal
+
+abbrev pub invariant-loop-gr : goal.invariant-loop-gr
+invariant-loop-gr l = (l.gr ≤ 12) × (length l.codes ≡ 3468) × (run_from l.bytes l.limit l.initial.cursor (granules l.lfe l.own) ≡ run_from l.bytes l.limit l.cursor (times (12 - l.gr) l.gr (granuleAt l.lfe l.own) l.codes))
+
+abbrev pub decreases-loop-gr : goal.decreases-loop-gr
+decreases-loop-gr l = 12 - l.gr

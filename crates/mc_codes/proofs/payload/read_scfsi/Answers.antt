@@ -1,0 +1,26 @@
+-- `payload::read_scfsi` meets its contract.
+use mathlib.Core.Path.{◌≡◌, refl}
+use mathlib.Core.Logic.{⊎_elim}
+use Prim.Native.Nat.{◌-◌, ◌≤◌}
+use native.Mathlib.Omega.{arith}
+use lib.Dec.{lit≤}
+use borrow.Author.Rules.{rules}
+use Rattle.bits.specs.Syntax.{times}
+use Rattle.cursor.specs.Cursor.{run_from}
+use Rattle.cursor.specs.CursorLaws.{cur-fits}
+use Rattle.mc_payload.specs.Payload.{scfsiAt, scfsi}
+use Rattle.mc_codes.proofs.ScfsiRead.{scfsi-read, scfsi-skip, scfsi-end}
+use Rattle.mc_codes.proofs.payload.read_scfsi.Goals as goal
+
+pub loop-i-init : goal.loop-i-init
+unfolding scfsi
+loop-i-init c = (omega arith, refl)
+
+pub overflow_cast-codes : goal.overflow_cast-codes
+overflow_cast-codes c = search (cur-fits, lit≤)
+
+pub loop-i-preserved : goal.loop-i-preserved
+loop-i-preserved c = (omega arith, ⊎_elim (λ w. search scfsi-read) (λ w. search scfsi-skip) c.if-steps-i-ne0.branch-raw)
+
+pub returns : goal.returns
+returns c = search scfsi-end

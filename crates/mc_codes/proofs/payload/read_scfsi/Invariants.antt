@@ -1,0 +1,19 @@
+-- `payload::read_scfsi` meets its contract.
+use mathlib.Core.Path.{◌≡◌, refl}
+use mathlib.Core.Logic.{⊎_elim}
+use Prim.Native.Nat.{◌-◌, ◌≤◌}
+use native.Mathlib.Omega.{arith}
+use lib.Dec.{lit≤}
+use borrow.Author.Rules.{rules}
+use Rattle.bits.specs.Syntax.{times}
+use Rattle.cursor.specs.Cursor.{run_from}
+use Rattle.cursor.specs.CursorLaws.{cur-fits}
+use Rattle.mc_payload.specs.Payload.{scfsiAt, scfsi}
+use Rattle.mc_codes.proofs.ScfsiRead.{scfsi-read, scfsi-skip, scfsi-end}
+use Rattle.mc_codes.proofs.payload.read_scfsi.Given as goal
+
+abbrev pub invariant-loop-i : goal.invariant-loop-i
+invariant-loop-i l = (l.i ≤ 96) × (run_from l.bytes l.limit l.initial.cursor (scfsi l.steps) ≡ run_from l.bytes l.limit l.cursor (times (96 - l.i) l.i (scfsiAt l.steps) l.codes))
+
+abbrev pub decreases-loop-i : goal.decreases-loop-i
+decreases-loop-i l = 96 - l.i

@@ -1,0 +1,21 @@
+-- `scalefactors::read_scalefactors` meets its contract.
+use mathlib.Core.Path.{◌≡◌, refl}
+use mathlib.Core.Logic.{⊎_elim}
+use Prim.Native.Nat.{◌-◌, ◌≤◌}
+use native.Mathlib.Omega.{arith}
+use borrow.Author.Rules.{rules}
+use Rattle.bits.specs.Syntax.{times}
+use Rattle.cursor.specs.Cursor.{run_from}
+use Rattle.mc_payload.specs.Payload.{factorsAt, scalefactors}
+use Rattle.mc_codes.proofs.FactorsRead.{factors-read, factors-skip, factors-end}
+use Rattle.mc_codes.proofs.scalefactors.read_scalefactors.Goals as goal
+
+pub loop-i-init : goal.loop-i-init
+unfolding scalefactors
+loop-i-init c = (omega arith, refl)
+
+pub loop-i-preserved : goal.loop-i-preserved
+loop-i-preserved c = (omega arith, ⊎_elim (λ w. search factors-read) (λ w. search factors-skip) c.if-steps-i-ne0.branch-raw)
+
+pub returns : goal.returns
+returns c = search factors-end

@@ -1,0 +1,12 @@
+-- `layout::front_layout` meets its contract.
+use borrow.Author.Tests.{ne_eqb}
+use Rattle.mc_config.proofs.layout.front_layout.Goals as goal
+
+pub returns-in-1 : goal.returns-in-1
+returns-in-1 c = rw c.in-1.is
+
+pub returns-in-3 : goal.returns-in-3
+returns-in-3 c = rw c.in-3.is
+
+pub returns-in_default : goal.returns-in_default
+returns-in_default c = rw (ne_eqb _ 1 c.in_default.in_default-own.0.1, ne_eqb _ 3 c.in_default.in_default-own.1)

@@ -1,0 +1,8 @@
+-- `mc_head::head_fits` meets its contract.
+use borrow.Author.Rules.{rules}
+use Rattle.mc_fields.specs.Lent.{headFits}
+use Rattle.mc_head.proofs.head_fits.Goals as goal
+
+pub returns : goal.returns
+unfolding headFits
+returns c = rw (c.reading_fits.ensures, c.string_fits.ensures, c.base_fits.ensures)

@@ -1,0 +1,37 @@
+-- `history` meets its contract. The loop writes a line of nine a turn.
+use mathlib.Core.Path.{◌≡◌, ◌∙◌, ap, refl}
+use Prim.Native.Nat.{ℕ, ◌-◌, ◌/◌, ◌≤◌}
+use lib.Dec.{eqb}
+use lib.Ieee.{nan}
+use lib.ListN.{length}
+use borrow.Author.Rules.{rules}
+use Rattle.fill.specs.ByTurn.{ByTurn, turn-starts}
+use Rattle.mc_base.specs.Base.{scaledBase}
+use Rattle.mc_predict.specs.Laws.Chosen.{chosen-long}
+use Rattle.mc_history.specs.HistoryBy.{historyBy}
+use Rattle.mc_history.specs.HistoryLaws.{turn-line, line-long, lines_end, history-kept}
+use Rattle.mc_scale.specs.Laws.Strided.{length-strided}
+use native.Mathlib.Omega.{arith}
+use Rattle.mc_history.proofs.history.Goals as goal
+
+pub loop-line-init : goal.loop-line-init
+loop-line-init c = (omega arith, refl, turn-starts (search rules))
+
+pub store_line-requires : goal.store_line-requires
+store_line-requires c =
+    let l = c in
+    let s = c in
+    let a = s.args in
+    let long = chosen-long (eqb a.s.base_channels 1) 1 a.left.now a.right.now s.requires.0 s.requires.1 in
+    (line-long (l.loop-line.line / 32) _ _ _ s.requires.0 (ap length c.second_base-second.ensures ∙ long) c.chosen-base.ensures, omega arith, omega (arith, l.loop-line.invariant.1))
+
+pub loop-line-preserved : goal.loop-line-preserved
+loop-line-preserved c =
+    let l = c in
+    let a = c.args in
+    (omega arith, ap length c.Store-Line.ensures ∙ (length-strided 1 _ _ _ 9 ∙ l.loop-line.invariant.1), rw (c.Store-Line.ensures, c.chosen-base.ensures) (turn-line a.left.now _ l.loop-line.invariant.2 (omega arith)))
+
+pub returns : goal.returns
+returns c =
+    let a = c.args in
+    history-kept a.s (scaledBase a.left.now a.right.now) c.second_base-second.ensures (lines_end a.left.now _ _ _ _ c.loop-line.invariant.2 (omega arith) refl)

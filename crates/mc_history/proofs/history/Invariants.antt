@@ -1,0 +1,21 @@
+-- `history` meets its contract. The loop writes a line of nine a turn.
+use mathlib.Core.Path.{◌≡◌, ◌∙◌, ap, refl}
+use Prim.Native.Nat.{ℕ, ◌-◌, ◌/◌, ◌≤◌}
+use lib.Dec.{eqb}
+use lib.Ieee.{nan}
+use lib.ListN.{length}
+use borrow.Author.Rules.{rules}
+use Rattle.fill.specs.ByTurn.{ByTurn, turn-starts}
+use Rattle.mc_base.specs.Base.{scaledBase}
+use Rattle.mc_predict.specs.Laws.Chosen.{chosen-long}
+use Rattle.mc_history.specs.HistoryBy.{historyBy}
+use Rattle.mc_history.specs.HistoryLaws.{turn-line, line-long, lines_end, history-kept}
+use Rattle.mc_scale.specs.Laws.Strided.{length-strided}
+use native.Mathlib.Omega.{arith}
+use Rattle.mc_history.proofs.history.Given as goal
+
+abbrev pub invariant-loop-line : goal.invariant-loop-line
+invariant-loop-line l = (l.line ≤ 64) × (length l.values ≡ 576) × ByTurn nan (λ (k : ℕ). k / 9) (historyBy l.left l.second) 576 l.initial.values l.values l.line
+
+abbrev pub decreases-loop-line : goal.decreases-loop-line
+decreases-loop-line l = 64 - l.line

@@ -1,0 +1,8 @@
+-- `loan::settings` meets its contract.
+use borrow.Author.Rules.{rules}
+use Rattle.mc_payload.specs.Unpack.{settingsOf}
+use Rattle.mc_loan.proofs.loan.settings.Goals as goal
+
+pub returns : goal.returns
+unfolding settingsOf
+returns c = cc

@@ -1,0 +1,31 @@
+-- `output::lay_out` meets its contract.
+use mathlib.Core.Path.{sym, ap, ◌∙◌}
+use mathlib.Core.List.{List}
+use mathlib.Core.Logic.{⊎_elim}
+use lib.Ieee.{Float}
+use lib.ListN.{length}
+use Rattle.mc_output.specs.Code.OutputByMix.{withSecond, beyond}
+use Rattle.mc_output.specs.Laws.LayOut.{second-long, beyond-long}
+use Rattle.mc_output.proofs.output.lay_out.Goals as goal
+
+pub write_second-requires : goal.write_second-requires
+write_second-requires c =
+    let p = c.requires in
+    let f = p.3.fits c.if-x.true in
+    (p.0, p.1, f.0, f.1, f.2)
+
+pub clear_beyond-requires : goal.clear_beyond-requires
+clear_beyond-requires c =
+    let s = c in
+    (⊎_elim (λ w. ap length (w.5 ∙ w.2.ensures) ∙ second-long s.args.x s.args.work.now s.args.output.now) (λ w. ap length w.1 ∙ s.requires.1) c.if-x.branch-raw, s.requires.2)
+
+pub shape_of-output : goal.shape_of-output
+shape_of-output c = ap length c.clear_beyond.ensures ∙ (beyond-long _ _ ∙ sym c.requires.1)
+
+pub returns : goal.returns
+unfolding withSecond
+returns c =
+    let a = c.args in
+    c.clear_beyond.ensures
+    ∙ ap (λ (l : List Float). beyond a.x.channels l)
+    (⊎_elim (λ w. rw w.0.taken (w.5 ∙ w.2.ensures)) (λ w. rw w.0.left w.1) c.if-x.branch-raw)

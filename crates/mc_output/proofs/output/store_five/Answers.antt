@@ -1,0 +1,20 @@
+-- `output::store_five` meets its contract. The loop writes one place of each channel.
+use mathlib.Core.Path.{refl}
+use Prim.Native.Nat.{ℕ, ◌-◌}
+use native.Mathlib.Omega.{arith}
+use lib.Ieee.{nan}
+use lib.ListN.{get_or}
+use Rattle.mc_scale.specs.Laws.Strided.{Striding, stride-starts, stride-more, stride-ends}
+use Rattle.mc_output.proofs.output.store_five.Goals as goal
+
+pub loop-ch-init : goal.loop-ch-init
+loop-ch-init c = stride-starts
+
+pub loop-ch-preserved : goal.loop-ch-preserved
+loop-ch-preserved c = stride-more c.loop-ch.invariant (omega arith) refl
+
+pub shape_of-output : goal.shape_of-output
+shape_of-output c = c.loop-ch.invariant.long
+
+pub returns : goal.returns
+returns c = stride-ends c.loop-ch.invariant (omega arith)

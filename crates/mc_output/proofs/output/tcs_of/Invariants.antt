@@ -1,0 +1,16 @@
+-- `output::tcs_of` meets its contract. The loop fills the table in order.
+use Prim.Native.Nat.{ℕ, ◌-◌}
+use lib.ListN.{get_or}
+use borrow.Author.Rules.{rules}
+use Rattle.fill.specs.InOrder.{Filling, starts, more, ends-all}
+use Rattle.mc_config.specs.Groups.{sbgrOf}
+use Rattle.mc_config.specs.GroupsLaws.{sbgr-below}
+use Rattle.mc_output.specs.Code.OutputByMix.{tcsOf}
+use native.Mathlib.Omega.{arith}
+use Rattle.mc_output.proofs.output.tcs_of.Given as goal
+
+abbrev pub invariant-loop-sb : goal.invariant-loop-sb
+invariant-loop-sb l = Filling (λ (i : ℕ). get_or l.tc (sbgrOf i) 0) 32 l.initial.tcs l.tcs l.sb
+
+abbrev pub decreases-loop-sb : goal.decreases-loop-sb
+decreases-loop-sb l = 32 - l.sb

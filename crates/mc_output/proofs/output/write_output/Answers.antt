@@ -1,0 +1,48 @@
+-- `output::write_output` meets its contract: the base alone, or all channels mixed.
+use mathlib.Core.Path.{◌∙◌, ap}
+use lib.Dec.{eqb}
+use lib.ListN.{length}
+use Rattle.mc_base.specs.Base.{scaledBase}
+use Rattle.mc_predict.specs.Laws.Chosen.{chosen-long}
+use Rattle.mc_config.specs.ConfigLaws.{layout-length}
+use Rattle.mc_payload.specs.Places.{config}
+use Rattle.mc_output.specs.Laws.LayOut.{mixed-all, laid_out}
+use Rattle.mc_output.specs.Laws.OutputByMix.{second_fits, output-written}
+use Rattle.mc_output.specs.Laws.BaseAlone.{alone-written}
+use borrow.Author.Rules.{rules}
+use Rattle.mc_output.proofs.output.write_output.Goals as goal
+
+pub write_base-requires : goal.write_base-requires
+write_base-requires c =
+    let s = c in
+    let a = s.args in
+    let long = chosen-long (eqb a.s.base_channels 1) 1 a.left.now a.right.now s.requires.0 s.requires.1 in
+    (s.requires.0, ap length c.second_base-second.ensures ∙ long, s.requires.3)
+
+pub returns-then-x : goal.returns-then-x
+returns-then-x c =
+    let a = c.args in
+    alone-written a.s (scaledBase a.left.now a.right.now) a.work.now c.mix_of-x.ensures c.if-x.true c.second_base-second.ensures c.write_base.ensures
+
+pub write_mixed-requires : goal.write_mixed-requires
+write_mixed-requires c =
+    let s = c in
+    let a = s.args in
+    let long = chosen-long (eqb a.s.base_channels 1) 1 a.left.now a.right.now s.requires.0 s.requires.1 in
+    (s.requires.0, ap length c.second_base-second.ensures ∙ long, s.requires.2, s.requires.3)
+
+pub lay_out-requires : goal.lay_out-requires
+lay_out-requires c =
+    let s = c in
+    let x = c.mix_of-x in
+    (s.requires.2, ap length c.write_mixed.ensures ∙ mixed-all _ _ _ _ _, rw x.ensures (layout-length (config s.args.s)).1, rw x.ensures (second_fits s.args.s))
+
+pub returns : goal.returns
+returns c =
+    let a = c.args in
+    let x = c.mix_of-x in
+    let second = c.second_base-second in
+    let tcs = c.tcs_of-tcs in
+    let mixed = c.write_mixed in
+    output-written a.s (scaledBase a.left.now a.right.now) a.work.now x.ensures tcs.ensures second.ensures
+    (c.lay_out.ensures ∙ rw mixed.ensures (laid_out x.result tcs.result a.left.now _ a.work.now (rw x.ensures (second_fits a.s))))

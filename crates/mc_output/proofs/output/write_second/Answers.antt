@@ -1,0 +1,38 @@
+-- `output::write_second` meets its contract. The loop writes the last two channels, place by place.
+use mathlib.Core.Path.{◌≡◌}
+use mathlib.Core.Logic.{⊎_elim}
+use Prim.Native.Nat.{ℕ, ◌+◌, ◌-◌, ◌*◌, ◌≤◌}
+use native.Mathlib.Omega.{arith}
+use lib.Ieee.{nan}
+use lib.ListN.{length}
+use Rattle.fill.specs.ByTurn.{ByTurn}
+use Rattle.mc_output.specs.Code.OutputByMix.{withSecondAt, withSecond}
+use Rattle.mc_output.specs.Laws.LayOut.{laying-starts, laying-more, laying-skip, laying-ends}
+use Rattle.mc_output.proofs.output.write_second.Goals as goal
+
+pub loop-i-init : goal.loop-i-init
+loop-i-init c = (omega arith, c.requires.1, laying-starts c.args.x.channels c.args.x.main c.args.x.limit c.args.work.now c.args.output.now c.requires.1)
+
+pub loop-i-preserved : goal.loop-i-preserved
+loop-i-preserved c =
+    let l = c.loop-i in
+    let s = c in
+    let h = c.loop-i-test.true in
+    let a = s.args in (
+      omega arith,
+      l.invariant.1,
+      ⊎_elim
+          (λ w. rw w.2 (laying-more a.x.channels a.x.main a.x.limit a.work.now a.output.now l.invariant.1 l.output l.i l.invariant.2 h s.requires.3 w.0.taken))
+          (λ w. rw w.1 (laying-skip a.x.channels a.x.main a.x.limit a.work.now a.output.now l.invariant.1 l.output l.i l.invariant.2 w.0.left))
+          c.if-i-limit.branch-raw,
+    )
+
+pub shape_of-output : goal.shape_of-output
+shape_of-output c = c.loop-i.invariant.2.long
+
+pub returns : goal.returns
+unfolding withSecond
+returns c =
+    let l = c.loop-i in
+    let a = c.args in
+    laying-ends a.x.channels a.x.main a.x.limit a.work.now a.output.now l.invariant.1 l.output l.i l.invariant.2 c.loop-i-test.false

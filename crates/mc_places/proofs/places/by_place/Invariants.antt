@@ -1,0 +1,18 @@
+-- `places::by_place` meets its contract.
+use mathlib.Core.Path.{refl}
+use Prim.Native.Nat.{◌-◌}
+use native.Mathlib.Omega.{arith}
+use borrow.Author.Rules.{rules}
+use Rattle.fill.specs.InOrder.{Filling, starts, more, ends-all}
+use Rattle.mc_payload.specs.Places.{place}
+use Rattle.mc_places.specs.PlacesBy.{carriedBy, groupAt, stepsBy, ownBy, places_by}
+use Rattle.mc_places.proofs.PlacesBuilt.{group-small, group-place, steps-place, own-place}
+use Rattle.mc_places.proofs.places.by_place.Given as goal
+
+abbrev pub invariant-loop-i : goal.invariant-loop-i
+invariant-loop-i l = Filling (place (λ m sb. stepsBy l.nb_steps l.base_nb_steps (carriedBy l.limits m sb) (groupAt l.sources m sb) (groupAt l.bases m sb) m sb)) 96 l.initial.steps l.steps l.i
+    × (Filling (place (λ m sb. ownBy l.nb_steps (carriedBy l.limits m sb) (groupAt l.sources m sb) m sb)) 96 l.initial.own l.own l.i
+    × (Filling (place (groupAt l.sources)) 96 l.initial.source l.source l.i × Filling (place (groupAt l.bases)) 96 l.initial.base l.base l.i))
+
+abbrev pub decreases-loop-i : goal.decreases-loop-i
+decreases-loop-i l = 96 - l.i

@@ -1,0 +1,9 @@
+-- `places::carried` meets its contract.
+use mathlib.Core.Path.{refl}
+use borrow.Author.Rules.{rules}
+use Rattle.mc_places.specs.PlacesBy.{carriedBy}
+use Rattle.mc_places.proofs.places.carried.Goals as goal
+
+pub returns : goal.returns
+unfolding carriedBy
+returns c = refl

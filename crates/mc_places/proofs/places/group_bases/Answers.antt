@@ -1,0 +1,24 @@
+-- `places::group_bases` meets its contract.
+use mathlib.Core.Path.{refl}
+use Prim.Native.Nat.{◌-◌, ◌/◌, ◌%◌}
+use native.Mathlib.Omega.{arith}
+use lib.ListN.{get_or}
+use borrow.Author.Rules.{rules}
+use Rattle.fill.specs.InOrder.{Filling, starts, more, ends-all}
+use Rattle.mc_roles.specs.Roles.{base_of}
+use Rattle.mc_places.specs.PlacesBy.{groupBases}
+use Rattle.mc_places.proofs.PlacesBuilt.{base-fits}
+use Rattle.mc_places.proofs.places.group_bases.Goals as goal
+
+pub loop-k-init : goal.loop-k-init
+loop-k-init c = starts (omega arith)
+
+pub overflow_cast-table : goal.overflow_cast-table
+overflow_cast-table c = search base-fits
+
+pub loop-k-preserved : goal.loop-k-preserved
+loop-k-preserved c = more c.loop-k.invariant (omega arith) c.base_of.ensures
+
+pub returns : goal.returns
+unfolding groupBases
+returns c = ends-all c.loop-k.invariant (omega arith) refl

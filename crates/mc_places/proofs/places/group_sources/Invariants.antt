@@ -1,0 +1,15 @@
+-- `places::group_sources` meets its contract.
+use mathlib.Core.Path.{refl}
+use Prim.Native.Nat.{◌-◌, ◌/◌, ◌%◌}
+use native.Mathlib.Omega.{arith}
+use borrow.Author.Rules.{rules}
+use Rattle.fill.specs.InOrder.{Filling, starts, more, ends-all}
+use Rattle.mc_fields.specs.Head.{modeAt, secondAt}
+use Rattle.mc_places.specs.PlacesBy.{sourceBy, groupSources}
+use Rattle.mc_places.proofs.places.group_sources.Given as goal
+
+abbrev pub invariant-loop-k : goal.invariant-loop-k
+invariant-loop-k l = Filling (λ j. sourceBy l.pair (modeAt l.cross (j / 3)) (secondAt l.cross (j / 3)) (j % 3)) 36 l.initial.table l.table l.k
+
+abbrev pub decreases-loop-k : goal.decreases-loop-k
+decreases-loop-k l = 36 - l.k

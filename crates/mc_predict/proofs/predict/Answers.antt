@@ -1,0 +1,16 @@
+-- `mc_predict::predict` meets its contract.
+use mathlib.Core.Path.{ap, ◌∙◌}
+use lib.Dec.{eqb}
+use lib.ListN.{length}
+use Rattle.mc_predict.specs.Laws.Chosen.{chosen-long}
+use borrow.Author.Rules.{rules}
+use Rattle.mc_predict.proofs.predict.Goals as goal
+
+pub predict_groups-requires : goal.predict_groups-requires
+predict_groups-requires c =
+    let s = c in
+    let a = s.args in
+    let second = chosen-long (eqb a.s.base_channels 1) 1 a.left.now a.right.now s.requires.left_len.0 s.requires.left_len.1 in record { left_len = (s.requires.left_len.0, ap length c.second_base-second.ensures ∙ second, s.requires.left_len.2); by_index = s.requires.by_index }
+
+pub returns : goal.returns
+returns c = rw (← c.from_header-config.ensures, ← c.pair.ensures, ← c.second_base-second.ensures) c.predict_groups.ensures

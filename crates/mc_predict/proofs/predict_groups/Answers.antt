@@ -1,0 +1,36 @@
+-- `mc_predict::predict_groups` meets its contract. The loop takes one group a turn.
+use mathlib.Core.Path.{◌∙◌}
+use mathlib.Core.Logic.{⊎_elim}
+use Prim.Native.Nat.{◌-◌, ◌≤◌}
+use Rattle.fill.specs.ByTurn.{turn-starts}
+use Rattle.mc_predict.specs.Laws.Group.{Groups, group-predicted, group-passed, groups-end}
+use native.Mathlib.Omega.{arith}
+use Rattle.mc_predict.proofs.predict_groups.Goals as goal
+
+pub loop-sb-init : goal.loop-sb-init
+loop-sb-init c = (omega arith, turn-starts (omega arith))
+
+pub predict_subband-requires : goal.predict_subband-requires
+predict_subband-requires c =
+    let s = c in
+    let l = c.loop-sb in record { sb_bound = (omega arith, l.invariant.1.long ∙ s.requires.left_len.2); by_index = λ px h. s.requires.by_index l.sb px c.loop-sb-test.true h }
+
+pub loop-sb-preserved : goal.loop-sb-preserved
+loop-sb-preserved c =
+    let a = c.args in
+    let l = c.loop-sb in (
+      omega arith,
+      ⊎_elim
+          (λ w. rw (w.12, w.9.ensures, w.1.ensures, w.2.ensures)
+          (group-predicted a.pair a.flags.now a.modes.now a.delays a.coefs a.left.now a.right.now a.history.now a.work.now l.invariant.1 (omega arith) c.requires.left_len.2 w.0.taken))
+          (λ w. rw w.1 (group-passed a.pair a.flags.now a.modes.now a.delays a.coefs a.left.now a.right.now a.history.now a.work.now l.invariant.1 w.0.left))
+          c.if-flags-sb-eq1.branch-raw,
+    )
+
+pub shape_of-work : goal.shape_of-work
+shape_of-work c = c.loop-sb.invariant.1.long
+
+pub returns : goal.returns
+returns c =
+    let a = c.args in
+    groups-end a.pair a.flags.now a.modes.now a.delays a.coefs a.left.now a.right.now a.history.now a.work.now c.loop-sb.invariant.1 (omega arith) c.requires.left_len.2

@@ -1,0 +1,8 @@
+-- `mc_predict::with_terms` meets its contract.
+use Rattle.mc_predict.specs.Code.PredictByLine.{termsOf}
+use borrow.Author.Rules.{rules}
+use Rattle.mc_predict.proofs.with_terms.Goals as goal
+
+pub returns : goal.returns
+unfolding termsOf
+returns c = rw (← c.with_term-one.ensures, ← c.with_term-two.ensures) c.with_term.ensures

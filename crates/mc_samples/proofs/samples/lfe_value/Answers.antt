@@ -1,0 +1,13 @@
+-- `samples::lfe_value` meets its contract.
+use borrow.Author.Tests.{ne_eqb}
+use borrow.Author.Rules.{rules}
+use Rattle.mc_values.specs.Values.{lfeBy}
+use Rattle.mc_samples.proofs.samples.lfe_value.Goals as goal
+
+pub returns-then-lfe-eq0 : goal.returns-then-lfe-eq0
+unfolding lfeBy
+returns-then-lfe-eq0 c = rw c.if-lfe-eq0.true
+
+pub returns : goal.returns
+unfolding lfeBy
+returns c = rw (ne_eqb _ 0 c.if-lfe-eq0.false) c.lfe_sample.ensures

@@ -1,0 +1,13 @@
+-- `samples::write_lfe` meets its contract.
+use Prim.Native.Nat.{◌-◌, ◌*◌}
+use native.Mathlib.Omega.{arith}
+use lib.ListN.{get_or}
+use Rattle.fill.specs.InOrder.{Filling, starts, more, ends-all}
+use Rattle.mc_values.specs.Values.{lfeBy, lfeFrom}
+use Rattle.mc_samples.proofs.samples.write_lfe.Given as goal
+
+abbrev pub invariant-loop-gr : goal.invariant-loop-gr
+invariant-loop-gr l = Filling (λ j. lfeBy l.lfe l.lf_scalefactor (get_or l.granules (289 * j) 0)) 12 l.initial.out l.out l.gr
+
+abbrev pub decreases-loop-gr : goal.decreases-loop-gr
+decreases-loop-gr l = 12 - l.gr

@@ -1,0 +1,16 @@
+-- `samples::write_place` meets its contract.
+use mathlib.Core.Path.{◌≡◌, sym, ◌∙◌}
+use Prim.Native.Nat.{◌-◌, ◌+◌, ◌*◌, ◌/◌, ◌%◌, ◌≤◌}
+use native.Mathlib.Omega.{arith}
+use lib.ListN.{length, length-set}
+use borrow.Author.Rules.{rules}
+use Rattle.mc_values.specs.Values.{rawBy, spread}
+use Rattle.mc_values.specs.ValuesLaws.{values-fit, spread_none}
+use Rattle.mc_samples.proofs.SamplesWritten.{index-small, class-found, place-next}
+use Rattle.mc_samples.proofs.samples.write_place.Given as goal
+
+abbrev pub invariant-loop-gr : goal.invariant-loop-gr
+invariant-loop-gr l = (l.gr ≤ 12) × (length l.raw ≡ 3456) × (l.raw ≡ spread (rawBy l.n l.granules l.i) (1152 * (l.i % 3) + l.i / 3) (3 * l.gr) l.initial.raw)
+
+abbrev pub decreases-loop-gr : goal.decreases-loop-gr
+decreases-loop-gr l = 12 - l.gr

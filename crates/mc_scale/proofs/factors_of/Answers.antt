@@ -1,0 +1,33 @@
+-- `mc_scale::factors_of` meets its contract. The loop fills the factors in order.
+use Prim.Native.Nat.{ℕ, ◌-◌}
+use lib.Ieee.{nan}
+use lib.ListN.{get_or}
+use borrow.Author.Rules.{rules}
+use Rattle.fill.specs.InOrder.{Filling, starts, more, ends-all}
+use Rattle.tables.specs.Scalefactor.{scalefactorOf}
+use Rattle.tables.specs.Lookup.{scalefactors-at}
+use Rattle.mc_scale.specs.Code.ScaleByPlace.{factorsOf}
+use native.Mathlib.Omega.{arith}
+use Rattle.mc_scale.proofs.factors_of.Goals as goal
+
+pub loop-i-init : goal.loop-i-init
+loop-i-init c = starts (search rules)
+
+pub overflow_cast-index : goal.overflow_cast-index
+overflow_cast-index c = omega (arith, c.requires c.loop-i.i c.loop-i-test.true)
+
+pub offset_bounds-table-index : goal.offset_bounds-table-index
+offset_bounds-table-index c = omega (arith, c.requires c.loop-i.i c.loop-i-test.true)
+
+pub bounds-table-index : goal.bounds-table-index
+bounds-table-index c = c.requires c.loop-i.i c.loop-i-test.true
+
+pub loop-i-preserved : goal.loop-i-preserved
+loop-i-preserved c =
+    let l = c.loop-i in
+    let low = c.requires l.i c.loop-i-test.true in
+    more l.invariant (omega arith) (scalefactors-at _ nan _ c.scalefactor_table-table.ensures low)
+
+pub returns : goal.returns
+unfolding factorsOf
+returns c = ends-all c.loop-i.invariant (omega arith) (search rules)

@@ -1,0 +1,59 @@
+-- `mc_scale::scale` meets its contract. The loop writes one column a turn: those whose turn has been hold the scaled values.
+use mathlib.Core.Path.{◌≡◌, ◌∙◌}
+use mathlib.Core.List.{List}
+use mathlib.Core.Logic.{⊎_elim}
+use Prim.Native.Nat.{ℕ, ◌-◌, ◌≤◌, ◌<◌}
+use lib.Ieee.{Float}
+use lib.ListN.{length}
+use borrow.Author.Rules.{rules}
+use Rattle.floats.specs.Binary64.{zero64}
+use Rattle.fill.specs.Tab.{tab}
+use Rattle.fill.specs.TabLaws.{length-tab}
+use Rattle.fill.specs.ByTurn.{turn-starts}
+use Rattle.mc_scale.specs.Code.Column.{placeAt}
+use Rattle.mc_scale.specs.Laws.ScaleByPlace.{Scaling, scaling-more, scaling-skip, scaling-ends}
+use Rattle.mc_scale.specs.Laws.TwoSteps.{one-step}
+use native.Mathlib.Omega.{arith}
+use Rattle.mc_scale.proofs.scale.Goals as goal
+
+-- a cleared buffer is as long as it was
+cleared-long : (n : ℕ) (d : List Float) → d ≡ tab (λ (k : ℕ). zero64) n → length d ≡ n
+cleared-long n d e = rw e (length-tab (λ (k : ℕ). zero64) n)
+
+pub factors_of-factors-requires : goal.factors_of-factors-requires
+factors_of-factors-requires c = c.requires.places_fit.factorListed
+
+pub loop-i-init : goal.loop-i-init
+loop-i-init c = (omega arith, turn-starts (omega (arith, cleared-long _ _ c.clear.ensures)))
+
+pub scale_place-requires : goal.scale_place-requires
+scale_place-requires c =
+    let l = c in
+    let p = l.requires in
+    let h : placeAt l.loop-i.i < 96 = omega arith in
+    (h, p.0.sourceSmall (placeAt l.loop-i.i) h, p.1.0, p.0.baseLong (placeAt l.loop-i.i) h, l.loop-i.invariant.1.long ∙ (cleared-long _ _ l.clear.ensures ∙ p.1.1))
+
+pub loop-i-preserved : goal.loop-i-preserved
+loop-i-preserved c =
+    let l = c in
+    let a = l.args in
+    let factors = l.factors_of-factors.result in (
+      omega arith,
+      ⊎_elim
+          (λ w. scaling-more a.steps.now a.source.now a.base.now factors a.raw.now a.left.now a.right.now _ _ _ _ l.loop-i.invariant.1 (omega arith) w.0.taken _ w.5.ensures w.8)
+          (λ w. search scaling-skip)
+          c.if-steps-place-ne0.branch-raw,
+    )
+
+pub shape_of-work : goal.shape_of-work
+shape_of-work c = c.loop-i.invariant.1.long ∙ cleared-long _ _ c.clear.ensures
+
+pub returns : goal.returns
+returns c =
+    let s = c in
+    let a = s.args in
+    let factors = c.factors_of-factors in
+    let once =
+    scaling-ends a.steps.now a.source.now a.base.now factors.result a.raw.now a.left.now a.right.now _ _ _ c.loop-i.invariant.1 (omega arith) (cleared-long _ _ c.clear.ensures ∙ s.requires.raw_len.1) in
+    rw (← factors.ensures)
+    (once, once ∙ one-step a.steps.now a.source.now a.base.now factors.result a.raw.now a.left.now a.right.now a.work.now s.requires.raw_len.1)

@@ -1,0 +1,15 @@
+-- `mc_state::McDecodeState::carry` meets its contract.
+use borrow.Author.Rules.{rules}
+use Rattle.mc_state.specs.CarryLaws.{carry-refused, carry-taken}
+use Rattle.mc_state.proofs.McDecodeState.carry.Reads as reads
+use Rattle.mc_state.proofs.McDecodeState.carry.Lts as lts
+use Rattle.mc_state.proofs.held.held_fits.Reads as held-fits-reads
+use Rattle.mc_state.proofs.McDecodeState.carry.Goals as goal
+
+-- src/carry.rt:17:13
+pub returns-then-not-held_fits : goal.returns-then-not-held_fits
+returns-then-not-held_fits c = search (carry-refused, carry-taken)
+
+-- src/carry.rt:13:5
+pub returns : goal.returns
+returns c = search (carry-refused, carry-taken)

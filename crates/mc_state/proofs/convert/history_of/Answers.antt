@@ -1,0 +1,19 @@
+-- `mc_state::convert::history_of` meets its contract.
+use mathlib.Core.Path.{refl, ◌∙◌}
+use Prim.Native.Nat.{ℕ, ◌-◌}
+use native.Mathlib.Omega.{arith}
+use lib.Ieee.{nan}
+use lib.ListN.{get_or}
+use borrow.Author.Rules.{rules}
+use Rattle.fill.specs.InOrder.{Filling, starts, more, ends-all}
+use Rattle.mc_state.specs.CarryLaws.{tab-list}
+use Rattle.mc_state.proofs.convert.history_of.Goals as goal
+
+pub loop-k-init : goal.loop-k-init
+loop-k-init c = starts (omega arith)
+
+pub loop-k-preserved : goal.loop-k-preserved
+loop-k-preserved c = more c.loop-k.invariant (omega arith) refl
+
+pub returns : goal.returns
+returns c = ends-all c.loop-k.invariant (omega arith) refl ∙ tab-list _ 576 c.requires

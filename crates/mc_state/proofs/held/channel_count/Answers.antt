@@ -1,0 +1,16 @@
+-- `mc_state::channel_count` meets its contract.
+use Rattle.mc_state.specs.HeldLaws.{counts-fit, counts-add}
+use borrow.Author.Rules.{rules}
+use Rattle.mc_state.proofs.held.channel_count.Reads as reads
+use Rattle.mc_state.proofs.held.channel_count.Lts as lts
+use Rattle.mc_state.proofs.held.front_count.Reads as front-count-reads
+use Rattle.mc_state.proofs.held.surround_count.Reads as surround-count-reads
+use Rattle.mc_state.proofs.held.channel_count.Goals as goal
+
+-- src/held.rt:35:5
+pub overflow_add-result : goal.overflow_add-result
+overflow_add-result c = search counts-fit
+
+-- src/held.rt:32:1
+pub returns : goal.returns
+returns c = search counts-add

@@ -1,0 +1,42 @@
+-- `mc_status::status::read_prediction` meets its contract.
+use mathlib.Core.Path.{◌≡◌}
+use Prim.Native.Nat.{ℕ, ◌-◌, ◌≤◌}
+use native.Mathlib.Omega.{arith}
+use borrow.Author.Rules.{rules}
+use lib.Dec.{lit≤}
+use Rattle.bits.specs.Syntax.{times}
+use Rattle.cursor.specs.Cursor.{run_from}
+use Rattle.mc_crosstalk.specs.Crosstalk.{predictorsOf}
+use Rattle.mc_fields.specs.Head.{modeAt, predictionAt, prediction}
+use Rattle.mc_fields.specs.FieldLaws.{bits-if-most, if-fits}
+use Rattle.mc_status.proofs.StatusWalk.{predictors-if-most, prediction-next, prediction-ran}
+use Rattle.mc_status.proofs.status.read_prediction.Goals as goal
+
+pub loop-g-init : goal.loop-g-init
+unfolding prediction
+loop-g-init c = search rules
+
+pub read-flag-requires : goal.read-flag-requires
+read-flag-requires c = search (bits-if-most, lit≤)
+
+pub overflow_cast-table : goal.overflow_cast-table
+overflow_cast-table c = search (if-fits, lit≤)
+
+pub read_predsi-counts-requires : goal.read_predsi-counts-requires
+read_predsi-counts-requires c = (omega arith, search predictors-if-most)
+
+pub loop-g-preserved : goal.loop-g-preserved
+loop-g-preserved c =
+    let k₄ = c in
+    let k₃ = k₄.before in
+    let k₂ = k₃.before.before.before.before in
+    let k₁ = k₂.before in
+    let k₀ = k₁.before in
+    let loop = k₀.before.loop in
+    let cross = k₀.before.before.before.args.dyn-cross.now in (
+      omega arith,
+      prediction-next _ _ _ _ cross _ _ _ loop.table _ _ _ _ _ loop.invariant.1 k₀.loop-test.true k₁.bits-if.ensures k₂.read.ensures k₃.predictors-if.ensures k₄.read_predsi-counts.ensures,
+    )
+
+pub returns : goal.returns
+returns c = search prediction-ran

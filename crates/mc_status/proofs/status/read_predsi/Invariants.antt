@@ -1,0 +1,19 @@
+-- `mc_status::status::read_predsi` meets its contract.
+use mathlib.Core.Path.{◌≡◌}
+use Prim.Native.Nat.{◌-◌, ◌≤◌}
+use native.Mathlib.Omega.{arith}
+use native.Mathlib.Nat.{sub-zero}
+use borrow.Author.Rules.{rules}
+use lib.Dec.{lit≤}
+use Rattle.bits.specs.Syntax.{times}
+use Rattle.cursor.specs.Cursor.{run_from}
+use Rattle.cursor.specs.CursorLaws.{cur-fits}
+use Rattle.mc_fields.specs.Head.{predsiAt}
+use Rattle.mc_status.proofs.StatusWalk.{predsi-next, predsi-ran}
+use Rattle.mc_status.proofs.status.read_predsi.Given as goal
+
+abbrev pub invariant-loop-px : goal.invariant-loop-px
+invariant-loop-px l = (l.px ≤ l.n) × (run_from l.bytes l.limit l.initial.cursor (times l.n 0 (predsiAt l.g) l.initial.table) ≡ run_from l.bytes l.limit l.cursor (times (l.n - l.px) l.px (predsiAt l.g) l.table))
+
+abbrev pub decreases-loop-px : goal.decreases-loop-px
+decreases-loop-px l = l.n - l.px

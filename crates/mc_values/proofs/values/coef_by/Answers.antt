@@ -1,0 +1,13 @@
+-- `values::coef_by` meets its contract.
+use borrow.Author.Tests.{lt-ltb, le-ltb}
+use borrow.Author.Rules.{rules}
+use Rattle.mc_values.specs.Values.{coefBy}
+use Rattle.mc_values.proofs.values.coef_by.Goals as goal
+
+pub returns-then-k-n : goal.returns-then-k-n
+unfolding coefBy
+returns-then-k-n c = rw (lt-ltb _ _ c.if-k-n.true) c.pred_coef.ensures
+
+pub returns-else-k-n : goal.returns-else-k-n
+unfolding coefBy
+returns-else-k-n c = rw (le-ltb _ _ c.if-k-n.false)

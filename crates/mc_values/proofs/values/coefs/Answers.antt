@@ -1,0 +1,18 @@
+-- `values::coefs` meets its contract.
+use mathlib.Core.Path.{refl}
+use Prim.Native.Nat.{◌-◌}
+use native.Mathlib.Omega.{arith}
+use borrow.Author.Rules.{rules}
+use Rattle.fill.specs.InOrder.{Filling, starts, more, ends-all}
+use Rattle.mc_values.specs.Values.{coefsIn, coefsFrom}
+use Rattle.mc_values.proofs.values.coefs.Goals as goal
+
+pub loop-g-init : goal.loop-g-init
+loop-g-init c = starts (omega arith)
+
+pub loop-g-preserved : goal.loop-g-preserved
+loop-g-preserved c = more c.loop-g.invariant (omega arith) c.group_coefs-group.ensures
+
+pub returns : goal.returns
+unfolding coefsFrom
+returns c = ends-all c.loop-g.invariant (omega arith) refl

@@ -1,0 +1,20 @@
+-- `values::group_coefs` meets its contract.
+use mathlib.Core.Path.{refl}
+use Prim.Native.Nat.{◌-◌, ◌+◌, ◌*◌}
+use native.Mathlib.Omega.{arith}
+use borrow.Author.Rules.{rules}
+use Rattle.fill.specs.InOrder.{Filling, starts, more, ends-all}
+use Rattle.fill.specs.Tab.{tab}
+use Rattle.mc_fields.specs.Head.{countAt}
+use Rattle.mc_values.specs.Values.{coefBy, coefsIn}
+use Rattle.mc_values.proofs.values.group_coefs.Goals as goal
+
+pub loop-px-init : goal.loop-px-init
+loop-px-init c = starts (omega arith)
+
+pub loop-px-preserved : goal.loop-px-preserved
+loop-px-preserved c = more c.loop-px.invariant (omega arith) c.predictor_coefs-row.ensures
+
+pub returns : goal.returns
+unfolding coefsIn
+returns c = ends-all c.loop-px.invariant (omega arith) refl

@@ -1,0 +1,16 @@
+-- `values::group_coefs` meets its contract.
+use mathlib.Core.Path.{refl}
+use Prim.Native.Nat.{◌-◌, ◌+◌, ◌*◌}
+use native.Mathlib.Omega.{arith}
+use borrow.Author.Rules.{rules}
+use Rattle.fill.specs.InOrder.{Filling, starts, more, ends-all}
+use Rattle.fill.specs.Tab.{tab}
+use Rattle.mc_fields.specs.Head.{countAt}
+use Rattle.mc_values.specs.Values.{coefBy, coefsIn}
+use Rattle.mc_values.proofs.values.group_coefs.Given as goal
+
+abbrev pub invariant-loop-px : goal.invariant-loop-px
+invariant-loop-px l = Filling (λ j. tab (coefBy l.codes (countAt l.predsi l.g j) (6 * l.g + j)) 3) 6 l.initial.rows l.rows l.px
+
+abbrev pub decreases-loop-px : goal.decreases-loop-px
+decreases-loop-px l = 6 - l.px

@@ -1,0 +1,19 @@
+-- `values::group_delays` meets its contract.
+use mathlib.Core.Path.{refl}
+use Prim.Native.Nat.{◌-◌, ◌+◌, ◌*◌}
+use native.Mathlib.Omega.{arith}
+use lib.ListN.{get_or}
+use borrow.Author.Rules.{rules}
+use Rattle.fill.specs.InOrder.{Filling, starts, more, ends-all}
+use Rattle.mc_values.specs.Values.{delaysIn}
+use Rattle.mc_values.proofs.values.group_delays.Goals as goal
+
+pub loop-px-init : goal.loop-px-init
+loop-px-init c = starts (omega arith)
+
+pub loop-px-preserved : goal.loop-px-preserved
+loop-px-preserved c = more c.loop-px.invariant (omega arith) refl
+
+pub returns : goal.returns
+unfolding delaysIn
+returns c = ends-all c.loop-px.invariant (omega arith) refl

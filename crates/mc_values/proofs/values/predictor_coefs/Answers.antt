@@ -1,0 +1,17 @@
+-- `values::predictor_coefs` meets its contract.
+use mathlib.Core.Path.{refl}
+use Prim.Native.Nat.{◌-◌}
+use native.Mathlib.Omega.{arith}
+use borrow.Author.Rules.{rules}
+use Rattle.fill.specs.InOrder.{Filling, starts, more, ends-all}
+use Rattle.mc_values.specs.Values.{coefBy}
+use Rattle.mc_values.proofs.values.predictor_coefs.Goals as goal
+
+pub loop-k-init : goal.loop-k-init
+loop-k-init c = starts (omega arith)
+
+pub loop-k-preserved : goal.loop-k-preserved
+loop-k-preserved c = more c.loop-k.invariant (omega arith) c.coef_by.ensures
+
+pub returns : goal.returns
+returns c = ends-all c.loop-k.invariant (omega arith) refl

@@ -1,0 +1,14 @@
+-- `values::predictor_coefs` meets its contract.
+use mathlib.Core.Path.{refl}
+use Prim.Native.Nat.{◌-◌}
+use native.Mathlib.Omega.{arith}
+use borrow.Author.Rules.{rules}
+use Rattle.fill.specs.InOrder.{Filling, starts, more, ends-all}
+use Rattle.mc_values.specs.Values.{coefBy}
+use Rattle.mc_values.proofs.values.predictor_coefs.Given as goal
+
+abbrev pub invariant-loop-k : goal.invariant-loop-k
+invariant-loop-k l = Filling (coefBy l.codes l.n l.q) 3 l.initial.row l.row l.k
+
+abbrev pub decreases-loop-k : goal.decreases-loop-k
+decreases-loop-k l = 3 - l.k

@@ -1,0 +1,24 @@
+-- `part_tables::tables::write_coefs` meets its contract.
+use mathlib.Core.Path.{refl, ◌∙◌}
+use mathlib.Core.List.{[]}
+use Prim.Native.Nat.{ℕ, ◌-◌, ◌/◌, ◌%◌}
+use native.Mathlib.Omega.{arith}
+use Rattle.fill.specs.InOrder.{Filling, starts, more, ends-all}
+use lib.Ieee.{nan}
+use lib.ListN.{get_or}
+use Rattle.part_tables.specs.Payload.{flatCoefs}
+use borrow.Author.Rules.{rules}
+use Rattle.part_tables.proofs.pack.write_coefs.Goals as goal
+
+pub loop-k-init : goal.loop-k-init
+loop-k-init c = starts (omega (arith, c.requires))
+
+pub loop-k-preserved : goal.loop-k-preserved
+loop-k-preserved c = more c.loop-k.invariant (omega arith) refl
+
+pub shape_of-out : goal.shape_of-out
+shape_of-out c = c.loop-k.invariant.long
+
+pub returns : goal.returns
+unfolding flatCoefs
+returns c = ends-all c.loop-k.invariant (omega arith) c.requires ∙ rw c.coefs-coefs.ensures

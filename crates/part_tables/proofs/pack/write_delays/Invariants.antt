@@ -1,0 +1,16 @@
+-- `part_tables::tables::write_delays` meets its contract.
+use mathlib.Core.Path.{refl, ◌∙◌}
+use mathlib.Core.List.{[]}
+use Prim.Native.Nat.{ℕ, ◌-◌, ◌/◌, ◌%◌}
+use native.Mathlib.Omega.{arith}
+use Rattle.fill.specs.InOrder.{Filling, starts, more, ends-all}
+use lib.ListN.{get_or}
+use Rattle.part_tables.specs.Payload.{flatDelays}
+use borrow.Author.Rules.{rules}
+use Rattle.part_tables.proofs.pack.write_delays.Given as goal
+
+abbrev pub invariant-loop-k : goal.invariant-loop-k
+invariant-loop-k l = Filling (λ (j : ℕ). get_or (get_or l.delays (j / 6) []) (j % 6) 0) 48 l.initial.out l.out l.k
+
+abbrev pub decreases-loop-k : goal.decreases-loop-k
+decreases-loop-k l = 48 - l.k

@@ -1,0 +1,21 @@
+-- `part_tables::tables::write_scalefactors` meets its contract.
+use mathlib.Core.Path.{refl}
+use Prim.Native.Nat.{ℕ, ◌-◌}
+use native.Mathlib.Omega.{arith}
+use Rattle.fill.specs.InOrder.{Filling, starts, more, ends-all}
+use lib.ListN.{get_or}
+use Rattle.part_tables.specs.Payload.{entries}
+use Rattle.part_tables.proofs.pack.write_scalefactors.Goals as goal
+
+pub loop-k-init : goal.loop-k-init
+loop-k-init c = starts (omega (arith, c.requires))
+
+pub loop-k-preserved : goal.loop-k-preserved
+loop-k-preserved c = more c.loop-k.invariant (omega arith) refl
+
+pub shape_of-out : goal.shape_of-out
+shape_of-out c = c.loop-k.invariant.long
+
+pub returns : goal.returns
+unfolding entries
+returns c = ends-all c.loop-k.invariant (omega arith) c.requires

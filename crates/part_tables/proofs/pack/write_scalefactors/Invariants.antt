@@ -1,0 +1,14 @@
+-- `part_tables::tables::write_scalefactors` meets its contract.
+use mathlib.Core.Path.{refl}
+use Prim.Native.Nat.{ℕ, ◌-◌}
+use native.Mathlib.Omega.{arith}
+use Rattle.fill.specs.InOrder.{Filling, starts, more, ends-all}
+use lib.ListN.{get_or}
+use Rattle.part_tables.specs.Payload.{entries}
+use Rattle.part_tables.proofs.pack.write_scalefactors.Given as goal
+
+abbrev pub invariant-loop-k : goal.invariant-loop-k
+invariant-loop-k l = Filling (λ (j : ℕ). get_or l.table j 0) 288 l.initial.out l.out l.k
+
+abbrev pub decreases-loop-k : goal.decreases-loop-k
+decreases-loop-k l = 288 - l.k

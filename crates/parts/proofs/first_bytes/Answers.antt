@@ -1,0 +1,7 @@
+-- `parts::first_bytes` meets its contract.
+use Rattle.parts.specs.PartsLaws.{first-bytes}
+use borrow.Author.Rules.{rules}
+use Rattle.parts.proofs.first_bytes.Goals as goal
+
+pub returns : goal.returns
+returns c = let a = c.args in first-bytes a.header a.word a.status

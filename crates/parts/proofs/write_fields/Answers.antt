@@ -1,0 +1,22 @@
+-- `parts::write_fields` meets its contract. The loop fills the bytes in order.
+use Prim.Native.Nat.{◌-◌}
+use native.Mathlib.Omega.{arith}
+use borrow.Author.Rules.{rules}
+use Rattle.fill.specs.InOrder.{Filling, starts, more, ends-all}
+use Rattle.part_tables.specs.Parts.{byteOf}
+use Rattle.parts.specs.PartsLaws.{all-bytes}
+use Rattle.parts.proofs.write_fields.Goals as goal
+
+pub loop-k-init : goal.loop-k-init
+loop-k-init c = starts (omega (arith, c.requires))
+
+pub loop-k-preserved : goal.loop-k-preserved
+loop-k-preserved c = more c.loop-k.invariant (omega arith) c.byte_of.ensures
+
+pub shape_of-out : goal.shape_of-out
+shape_of-out c = c.loop-k.invariant.long
+
+pub returns : goal.returns
+returns c =
+    let q = c in
+    all-bytes q.args.header q.args.word q.args.status _ _ q.first_bytes-first.ensures (ends-all c.loop-k.invariant (omega arith) q.requires)

@@ -1,0 +1,14 @@
+-- `parts::write_fields` meets its contract. The loop fills the bytes in order.
+use Prim.Native.Nat.{◌-◌}
+use native.Mathlib.Omega.{arith}
+use borrow.Author.Rules.{rules}
+use Rattle.fill.specs.InOrder.{Filling, starts, more, ends-all}
+use Rattle.part_tables.specs.Parts.{byteOf}
+use Rattle.parts.specs.PartsLaws.{all-bytes}
+use Rattle.parts.proofs.write_fields.Given as goal
+
+abbrev pub invariant-loop-k : goal.invariant-loop-k
+invariant-loop-k l = Filling (byteOf l.first l.tc l.lr l.cross l.prediction) 110 l.initial.out l.out l.k
+
+abbrev pub decreases-loop-k : goal.decreases-loop-k
+decreases-loop-k l = 110 - l.k

@@ -1,0 +1,11 @@
+-- `replay_list::outcome::hash_tallies` meets its contract.
+use Rattle.std.proofs.Common.{◌≡◌, ◌-◌, ◌≤◌, arith, rules}
+use Rattle.replay_list.specs.Outcome.{hashNumbers}
+use Rattle.replay_list.specs.OutcomeLaws.{numbers-none, numbers_more, numbers-all}
+use Rattle.replay_list.proofs.outcome.hash_tallies.Given as goal
+
+abbrev pub invariant-loop-k : goal.invariant-loop-k
+invariant-loop-k l = (l.hash ≡ hashNumbers l.h l.tallies l.k) × (l.k ≤ 8)
+
+abbrev pub decreases-loop-k : goal.decreases-loop-k
+decreases-loop-k l = 8 - l.k

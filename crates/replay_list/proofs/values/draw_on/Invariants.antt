@@ -1,0 +1,11 @@
+-- `replay_list::values::draw_on` meets its contract.
+use Rattle.std.proofs.Common.{◌≡◌, ℕ, ◌-◌, ◌≤◌, sym, refl, ap, ◌∙◌, le_antisymm, arith, rules}
+use Rattle.replay_list.specs.Values.{drawn, drawnTo}
+use Rattle.replay_list.specs.ValuesLaws.{draw-more}
+use Rattle.replay_list.proofs.values.draw_on.Given as goal
+
+abbrev pub invariant-loop-k : goal.invariant-loop-k
+invariant-loop-k l = (l.k ≤ l.n) × (l.next ≡ drawnTo l.k l.x)
+
+abbrev pub decreases-loop-k : goal.decreases-loop-k
+decreases-loop-k l = l.n - l.k
