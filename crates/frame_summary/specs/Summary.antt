@@ -1,5 +1,5 @@
--- What is said of a channel's values, and a value as millionths. Definitions only.
-use Rattle.std.specs.Prelude.{ℕ, ◌+◌, cond, List, [], ◌∷◌, from_bits, Float}
+-- What is said of a channel's values, a value as millionths, and a number's digits. Definitions only.
+use Rattle.std.specs.Prelude.{ℕ, zero, suc, ◌+◌, ◌/◌, ◌%◌, cond, List, [], ◌∷◌, ◌++◌, nat_lt, from_bits, Float}
 use Rattle.std.specs.Float.{binary64}
 use Rattle.std.specs.Float.Ieee.{neg, lt, ne, to_unsigned}
 use Rattle.encoding.specs.Encoding.{hashFloats}
@@ -39,3 +39,12 @@ whole_of x = cond (lt (neg (from_bits binary64 0x3FF0000000000000)) x) (cond (lt
 -- of the magnitude times 1000000, the product rounded once
 abbrev pub millionthsOf : Float → ℕ
 millionthsOf x = whole_of (magnitude x ⊗ from_bits binary64 0x412E848000000000)
+
+-- the ASCII code of a digit below 16: `0` to `9`, then `a` to `f`
+abbrev pub hex_digit_ascii : ℕ → ℕ
+hex_digit_ascii d = cond (nat_lt d 10) (48 + d) (87 + d)
+
+-- the last k digits of n in base b, the most significant first
+abbrev pub last_digits : ℕ → ℕ → ℕ → List ℕ
+last_digits b zero n = []
+last_digits b (suc k) n = last_digits b k (n / b) ++ (hex_digit_ascii (n % b) ∷ [])

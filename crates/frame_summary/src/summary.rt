@@ -1,7 +1,6 @@
 // What is said of a channel's values, and a value as a decimal number.
 ghost use Rattle.std.specs.Prelude.{◌≡◌, ◌%◌};
-ghost use Rattle.io.specs.Digits.{last_digits, hex_digit_ascii};
-ghost use Rattle.frame_summary.specs.Summary.{magnitude as Summary·magnitude, peakOf, nonzeroOf, whole_of, millionthsOf, summaryOf};
+ghost use Rattle.frame_summary.specs.Summary.{magnitude as Summary·magnitude, peakOf, nonzeroOf, whole_of, millionthsOf, summaryOf, last_digits, hex_digit_ascii};
 
 use hash::hash_floats;
 

@@ -9,6 +9,8 @@ mod report;
 use encoding::number_at;
 use mc_state::{McAnswer, McDecodeState};
 use replay_list::Tally;
+use std::io;
+use std::io::{ErrorKind, Input, Read};
 
 // The letters MCREPLAY as a number, lowest byte first.
 const NAME: u64 = 0x59414C504552434D;
@@ -29,30 +31,40 @@ fn opens(bytes: &[u8]) -> bool
 }
 
 // Fills the first n bytes of the buffer; false where the list ends before.
-fn read_part(buffer: &mut [u8], n: usize) -> bool {
+fn read_part(rt: &impl Input, buffer: &mut [u8], n: usize) -> io::Result<bool> {
     if buffer.len() < n {
-        return false;
+        return Ok(false);
     }
-    io::read_full(0, &mut buffer[..n]) == n
+    match rt.reader().read_exact(&mut buffer[..n]) {
+        Ok(()) => Ok(true),
+        Err(e) if e.kind() == ErrorKind::UnexpectedEof => Ok(false),
+        Err(e) => Err(e),
+    }
 }
 
 // Reads a frame: its opening, its head and its payload; false where the list does not have it whole.
-fn read_frame(opening: &mut [u8], head: &mut [u8], payload: &mut [u8]) -> bool {
-    if !read_part(opening, 256) {
-        return false;
+fn read_frame(
+    rt: &impl Input,
+    opening: &mut [u8],
+    head: &mut [u8],
+    payload: &mut [u8],
+) -> io::Result<bool> {
+    if !read_part(rt, opening, 256)? {
+        return Ok(false);
     }
-    if !read_part(head, 64) {
-        return false;
+    if !read_part(rt, head, 64)? {
+        return Ok(false);
     }
     let blocks = number_at(opening, 28, 4);
     if 129 < blocks {
-        return false;
+        return Ok(false);
     }
-    read_part(payload, blocks as usize * 64)
+    read_part(rt, payload, blocks as usize * 64)
 }
 
 // Compares what a frame left with what the list says, prints each difference and counts the frame.
 fn compared<'a>(
+    rt: &impl Print,
     tally: Tally,
     opening: &[u8],
     answer: McAnswer,
@@ -61,17 +73,18 @@ fn compared<'a>(
     work: &'a [f64],
     output: &'a [f64],
     lfe: &'a [f64],
-) -> Tally {
+) -> io::Result<Tally> {
     let found = replay_list::reached(answer, state, raw, work, output, lfe);
     let d = replay_list::compare(found, replay_list::listed(opening));
-    report::differing(tally.frames, d);
+    report::differing(rt, tally.frames, d)?;
     let differs = d.answer | d.raw | d.work | d.output | d.lfe | d.state;
     let values = replay_list::hashed_values(raw, work, output, lfe);
-    replay_list::tallied(tally, found.answer, values, differs)
+    Ok(replay_list::tallied(tally, found.answer, values, differs))
 }
 
 // Runs a frame that was read, and compares.
 fn run_frame(
+    rt: &impl Print,
     state: McDecodeState,
     tally: Tally,
     opening: &[u8],
@@ -81,7 +94,7 @@ fn run_frame(
     work: &mut [f64],
     output: &mut [f64],
     lfe: &mut [f64],
-) -> Turn {
+) -> io::Result<Turn> {
     let head_bytes = replay_list::lent_bytes(opening, 0, head.len());
     let payload_bytes = replay_list::lent_bytes(opening, 2, payload.len());
     let t = frame::replay_frame(
@@ -96,35 +109,36 @@ fn run_frame(
     );
     let answer = t.answer;
     let next = t.state;
-    let counts = compared(tally, opening, answer, next, raw, work, output, lfe);
-    Turn {
+    let counts = compared(rt, tally, opening, answer, next, raw, work, output, lfe)?;
+    Ok(Turn {
         whole: true,
         state: next,
         tally: counts,
-    }
+    })
 }
 
 // Reads the next frame of the list, runs it and compares.
 fn next_frame(
+    rt: &(impl Input + Print),
     state: McDecodeState,
     tally: Tally,
     raw: &mut [f64; 3456],
     work: &mut [f64; 3456],
     output: &mut [f64; 5760],
     lfe: &mut [f64; 12],
-) -> Turn {
-    let mut opening = io::buffer();
-    let mut head = io::large_buffer();
-    let mut payload = io::large_buffer();
-    if !read_frame(&mut opening, &mut head, &mut payload) {
-        return Turn {
+) -> io::Result<Turn> {
+    let mut opening = [0u8; 4096];
+    let mut head = [0u8; 65536];
+    let mut payload = [0u8; 65536];
+    if !read_frame(rt, &mut opening, &mut head, &mut payload)? {
+        return Ok(Turn {
             whole: false,
             state,
             tally,
-        };
+        });
     }
     run_frame(
-        state, tally, &opening, &head, &payload, raw, work, output, lfe,
+        rt, state, tally, &opening, &head, &payload, raw, work, output, lfe,
     )
 }
 
@@ -141,13 +155,13 @@ fn lfe_values() -> [f64; 12] {
 }
 
 // Whether the list ends here.
-fn ends() -> bool {
+fn ends(rt: &impl Input) -> io::Result<bool> {
     let mut more = [0u8; 1];
-    io::read_full(0, &mut more) == 0
+    Ok(!read_part(rt, &mut more, 1)?)
 }
 
 // Runs so many frames and prints what was compared; false where the list ends before.
-fn replay(count: u64) -> bool {
+fn replay(rt: &(impl Input + Print), count: u64) -> io::Result<bool> {
     let mut raw = main_values();
     let mut work = main_values();
     let mut output = output_values();
@@ -161,33 +175,32 @@ fn replay(count: u64) -> bool {
     };
     let mut left = count;
     while 0 < left {
-        let t = next_frame(state, tally, &mut raw, &mut work, &mut output, &mut lfe);
+        let t = next_frame(rt, state, tally, &mut raw, &mut work, &mut output, &mut lfe)?;
         if !t.whole {
-            return false;
+            return Ok(false);
         }
         state = t.state;
         tally = t.tally;
         left -= 1;
     }
-    if ends() {
-        report::totals(tally);
+    if ends(rt)? {
+        report::totals(rt, tally)?;
     } else {
-        report::line(b"the list has bytes left over");
+        report::line(rt, "the list has bytes left over")?;
     }
-    true
+    Ok(true)
 }
 
-fn main() {
+fn main(rt: HostRuntime) -> io::Result<()> {
     let mut opening = [0u8; 64];
-    if io::read_full(0, &mut opening) != 64 {
-        report::line(b"the list is cut in its opening");
-        return;
+    if !read_part(&rt, &mut opening, 64)? {
+        return report::line(&rt, "the list is cut in its opening");
     }
     if !opens(&opening) {
-        report::line(b"this is no list of frames: its opening is wrong");
-        return;
+        return report::line(&rt, "this is no list of frames: its opening is wrong");
     }
-    if !replay(number_at(&opening, 8, 4)) {
-        report::line(b"the list is cut within a frame");
+    if !replay(&rt, number_at(&opening, 8, 4))? {
+        report::line(&rt, "the list is cut within a frame")?;
     }
+    Ok(())
 }

@@ -1,62 +1,54 @@
-// What the program prints.
+// What the program prints, each line by one write.
 use replay_list::{Differences, Tally};
+use std::io;
 
-const OUT: i32 = 1;
-
-pub fn line(text: &[u8]) {
-    io::write_all(OUT, text);
-    io::write_all(OUT, b"\n");
+pub fn line(rt: &impl Print, text: &str) -> io::Result<()> {
+    rt.println(text)
 }
 
-fn counted(text: &[u8], n: u64) {
-    io::write_all(OUT, text);
-    io::print_decimal(OUT, n);
-    io::write_all(OUT, b"\n");
+fn counted(rt: &impl Print, text: &str, n: u64) -> io::Result<()> {
+    println!(rt; "{text}{n}")
 }
 
-fn refused(number: u64, n: u64) {
-    io::write_all(OUT, b"refusal ");
-    io::print_decimal(OUT, number);
-    counted(b": ", n);
+fn refused(rt: &impl Print, number: u64, n: u64) -> io::Result<()> {
+    println!(rt; "refusal {number}: {n}")
 }
 
 // One line for a part of a frame that differs.
-fn part(number: u64, differs: bool, name: &[u8]) {
+fn part(rt: &impl Print, number: u64, differs: bool, name: &str) -> io::Result<()> {
     if differs {
-        io::write_all(OUT, b"frame ");
-        io::print_decimal(OUT, number);
-        io::write_all(OUT, b" differs in ");
-        line(name);
+        println!(rt; "frame {number} differs in {name}")?;
     }
+    Ok(())
 }
 
-pub fn differing(number: u64, d: Differences) {
-    part(number, d.answer, b"its answer");
-    part(number, d.raw, b"raw");
-    part(number, d.work, b"work");
-    part(number, d.output, b"output");
-    part(number, d.lfe, b"lfe");
-    part(number, d.state, b"its state");
+pub fn differing(rt: &impl Print, number: u64, d: Differences) -> io::Result<()> {
+    part(rt, number, d.answer, "its answer")?;
+    part(rt, number, d.raw, "raw")?;
+    part(rt, number, d.work, "work")?;
+    part(rt, number, d.output, "output")?;
+    part(rt, number, d.lfe, "lfe")?;
+    part(rt, number, d.state, "its state")
 }
 
-pub fn totals(t: Tally) {
+pub fn totals(rt: &impl Print, t: Tally) -> io::Result<()> {
     let answers = t.answers;
-    counted(b"frames: ", t.frames);
-    counted(b"accepted: ", answers[0]);
-    refused(1, answers[1]);
-    refused(2, answers[2]);
-    refused(3, answers[3]);
-    refused(4, answers[4]);
-    refused(5, answers[5]);
-    refused(6, answers[6]);
-    refused(7, answers[7]);
-    refused(8, answers[8]);
-    refused(13, answers[13]);
-    refused(14, answers[14]);
-    counted(b"values in the hashes: ", t.values);
+    counted(rt, "frames: ", t.frames)?;
+    counted(rt, "accepted: ", answers[0])?;
+    refused(rt, 1, answers[1])?;
+    refused(rt, 2, answers[2])?;
+    refused(rt, 3, answers[3])?;
+    refused(rt, 4, answers[4])?;
+    refused(rt, 5, answers[5])?;
+    refused(rt, 6, answers[6])?;
+    refused(rt, 7, answers[7])?;
+    refused(rt, 8, answers[8])?;
+    refused(rt, 13, answers[13])?;
+    refused(rt, 14, answers[14])?;
+    counted(rt, "values in the hashes: ", t.values)?;
     if t.different == 0 {
-        line(b"no difference");
+        line(rt, "no difference")
     } else {
-        counted(b"frames with a difference: ", t.different);
+        counted(rt, "frames with a difference: ", t.different)
     }
 }

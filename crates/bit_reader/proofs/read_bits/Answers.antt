@@ -30,4 +30,4 @@ unfolding readAt
 returns c =
     let a = c.args in
     simp
-    (le-leb (a.at + a.n) a.limit (omega arith), computed a.bytes.now a.at a.n _ _ _ (omega arith) c.byte_at.ensures c.byte_at-2.ensures c.byte_at-3.ensures)
+    (le-leb (a.at + a.n) a.limit (omega arith), computed a.bytes.now a.at a.n _ _ _ (omega arith) (c.byte_at.ensures.value, c.byte_at.ensures.upper_bound) (c.byte_at-2.ensures.value, c.byte_at-2.ensures.upper_bound) (c.byte_at-3.ensures.value, c.byte_at-3.ensures.upper_bound))

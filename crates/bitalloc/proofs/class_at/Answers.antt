@@ -80,7 +80,7 @@ pub returns-in_default : goal.returns-in_default
 unfolding classes class_at of_bits
 returns-in_default c =
     let i = c.args.index in
-    let r = c.in_default.in_default-own in
+    let r = c.in_default.in_default-own.rest in
     let h : 16 ≤ i = (up 15 i (up 14 i (up 13 i (up 12 i (up 11 i (up 10 i (up 9 i (up 8 i (up 7 i (up 6 i (up 5 i (up 4 i (up 3 i (up 2 i (up 1 i (up 0 i (omega arith) r.0.0.0.0.0.0.0.0.0.0.0.0.0.0.0.1) r.0.0.0.0.0.0.0.0.0.0.0.0.0.0.1) r.0.0.0.0.0.0.0.0.0.0.0.0.0.1) r.0.0.0.0.0.0.0.0.0.0.0.0.1) r.0.0.0.0.0.0.0.0.0.0.0.1) r.0.0.0.0.0.0.0.0.0.0.1) r.0.0.0.0.0.0.0.0.0.1) r.0.0.0.0.0.0.0.0.1) r.0.0.0.0.0.0.0.1) r.0.0.0.0.0.0.1) r.0.0.0.0.0.1) r.0.0.0.0.1) r.0.0.0.1) r.0.0.1) r.0.1) r.1) in
     let e : i ≡ 16 = omega arith in
     rw e

@@ -1,11 +1,10 @@
 -- `leaves::mc_leaf_degroup` meets its contract: each return answers what `degroupLeaf` picks by the tests that led there.
 use mathlib.Core.Path.{◌≡◌, sym, ap, ◌∙◌, subst}
-use mathlib.Core.Bool.{Bool, true, false, not}
+use mathlib.Core.Bool.{Bool, true, false}
 use Prim.Native.Nat.{ℕ, ◌^◌, ◌≤◌, ◌<◌}
 use native.Mathlib.Omega.{arith}
 use lib.Dec.{T, ltb}
 use borrow.Author.Rules.{rules}
-use borrow.Author.Tests.{not-true, not-false}
 use Rattle.bitalloc.specs.declared.QuantClass.{QuantClass}
 use Rattle.bitalloc.specs.Classes.{isClass, class_of, grouped, bitsPerCodeword}
 use Rattle.bitalloc.specs.Places.{class-steps, class-grouped}
@@ -18,12 +17,12 @@ module _ (steps : ℕ) (class : QuantClass) (r : class ≡ class_of steps) where
   group : (t : Bool) → class.grouping ≡ t → grouped steps ≡ t
   group t g = ap (λ (q : QuantClass). q.grouping) (sym r) ∙ g
 
-  single : (combined : ℕ) → not class.grouping ≡ true → 0 ≡ degroupLeaf steps combined
-  single combined g = simp (group false (not-true _ g))
+  single : (combined : ℕ) → class.grouping ≡ false → 0 ≡ degroupLeaf steps combined
+  single combined g = simp (group false g)
 
-  module _ (g : not class.grouping ≡ false) where
+  module _ (g : class.grouping ≡ true) where
     known : T (isClass steps)
-    known = class-grouped steps (group true (not-false _ g))
+    known = class-grouped steps (group true g)
 
     short : class.bits_per_codeword ≤ 16
     short = subst (λ (q : QuantClass). q.bits_per_codeword ≤ 16) (sym r) (steps-rules steps known).codeword-high
@@ -31,7 +30,7 @@ module _ (steps : ℕ) (class : QuantClass) (r : class ≡ class_of steps) where
     few : (0 < steps) × (steps ≤ 9)
     few =
         let low = (steps-rules steps known).steps_low in
-        let high = group-steps (class_of steps) (steps-rules steps known) (group true (not-false _ g)) in
+        let high = group-steps (class_of steps) (steps-rules steps known) (group true g) in
         subst (λ (n : ℕ). (0 < n) × (n ≤ 9)) (class-steps steps known) (omega arith, high)
 
     module _ (combined : ℕ) (b : Bool) (f : b ≡ ltb combined (2 ^ class.bits_per_codeword)) where
@@ -39,10 +38,10 @@ module _ (steps : ℕ) (class : QuantClass) (r : class ≡ class_of steps) where
       test t i = ap (λ (q : QuantClass). ltb combined (2 ^ q.bits_per_codeword)) (sym r) ∙ sym f ∙ i
 
       inside : (x : ℕ) → b ≡ true → x ≡ packed (degrouped steps combined) → x ≡ degroupLeaf steps combined
-      inside x t i = simp (group true (not-false _ g), test true t) i
+      inside x t i = simp (group true g, test true t) i
 
       outside : b ≡ false → 0 ≡ degroupLeaf steps combined
-      outside t = simp (group true (not-false _ g), test false t)
+      outside t = simp (group true g, test false t)
 
 pub returns-then-not-grouping : goal.returns-then-not-grouping
 returns-then-not-grouping c = search single

@@ -19,14 +19,14 @@ unknown steps index code e h = simp (le-ltb (classIndex steps) 17 (subst (λ (n 
 
 -- the class at a place
 module _ (index : ℕ) (class : QuantClass) (h : index < 17) (r : class ≡ class_at index) where
-  rules : Rules class
-  rules = subst Rules (sym r) (class-rules index h)
+  ruled : Rules class
+  ruled = subst Rules (sym r) (class-rules index h)
 
   some : 1 ≤ class.bits_per_sample
-  some = le_trans (lit≤ tt) rules.sample-low
+  some = le_trans (lit≤ tt) ruled.sample-low
 
   most : class.bits_per_sample ≤ 16
-  most = rules.sample-high
+  most = ruled.sample-high
 
 -- a code's test there
 below : (code : ℕ) (class : QuantClass) (b : Bool) → b ≡ ltb code (2 ^ class.bits_per_sample) → b ≡ true → code < 2 ^ class.bits_per_sample

@@ -32,5 +32,5 @@ returns-in-21 c = rw (ne_eqb _ 3 c.if-procedure-eq3.false, c.in-21.is, ← c.wei
 pub returns-in_default : goal.returns-in_default
 unfolding dematrixed weighted unweighted
 returns-in_default c =
-    let o = other c.in_default.in_default-own.0.0.0.0.1 c.in_default.in_default-own.0.0.0.1 c.in_default.in_default-own.0.0.1 c.in_default.in_default-own.0.1 c.in_default.in_default-own.1 in
+    let o = other c.in_default.in_default-own.rest.0.0.0.0.1 c.in_default.in_default-own.rest.0.0.0.1 c.in_default.in_default-own.rest.0.0.1 c.in_default.in_default-own.rest.0.1 c.in_default.in_default-own.rest.1 in
     simp (ne_eqb _ 3 c.if-procedure-eq3.false, byPair-other)

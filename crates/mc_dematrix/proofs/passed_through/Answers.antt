@@ -19,5 +19,5 @@ returns-in-30 c = ⊎_elim (λ e. rw e) (λ e. rw e) c.in-30.is
 pub returns-in_default : goal.returns-in_default
 unfolding passed
 returns-in_default c =
-    let o = other c.in_default.in_default-own.0.0.1 (λ e. c.in_default.in_default-own.0.1 (inr e)) (λ e. c.in_default.in_default-own.1 (inr e)) (λ e. c.in_default.in_default-own.0.1 (inl e)) (λ e. c.in_default.in_default-own.1 (inl e)) in
+    let o = other c.in_default.in_default-own.rest.0.0.1 (λ e. c.in_default.in_default-own.rest.0.1 (inr e)) (λ e. c.in_default.in_default-own.rest.1 (inr e)) (λ e. c.in_default.in_default-own.rest.0.1 (inl e)) (λ e. c.in_default.in_default-own.rest.1 (inl e)) in
     simp byPair-other

@@ -6,4 +6,4 @@ pub returns-in-13 : goal.returns-in-13
 returns-in-13 c = rw c.in-13.is
 
 pub returns-in_default : goal.returns-in_default
-returns-in_default c = rw (number-rest _ c.requires c.in_default.in_default-own.1)
+returns-in_default c = rw (number-rest _ c.requires c.in_default.in_default-own.rest.1)

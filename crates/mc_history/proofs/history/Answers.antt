@@ -29,7 +29,7 @@ pub loop-line-preserved : goal.loop-line-preserved
 loop-line-preserved c =
     let l = c in
     let a = c.args in
-    (omega arith, ap length c.Store-Line.ensures ∙ (length-strided 1 _ _ _ 9 ∙ l.loop-line.invariant.1), rw (c.Store-Line.ensures, c.chosen-base.ensures) (turn-line a.left.now _ l.loop-line.invariant.2 (omega arith)))
+    (omega arith, ap length c.store_line.ensures ∙ (length-strided 1 _ _ _ 9 ∙ l.loop-line.invariant.1), rw (c.store_line.ensures, c.chosen-base.ensures) (turn-line a.left.now _ l.loop-line.invariant.2 (omega arith)))
 
 pub returns : goal.returns
 returns c =

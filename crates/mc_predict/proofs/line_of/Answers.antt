@@ -10,7 +10,7 @@ pub loop-t-init : goal.loop-t-init
 loop-t-init c = starts (search rules)
 
 pub loop-t-preserved : goal.loop-t-preserved
-loop-t-preserved c = more c.loop-t.invariant (omega arith) c.line_at_lem.ensures
+loop-t-preserved c = more c.loop-t.invariant (omega arith) c.line_at.ensures
 
 pub returns : goal.returns
 unfolding line_of

@@ -6,6 +6,7 @@ use Rattle.fill.specs.ByTurn.{turn-starts}
 use Rattle.mc_predict.specs.Laws.Group.{Groups, group-predicted, group-passed, groups-end}
 use native.Mathlib.Omega.{arith}
 use Rattle.mc_predict.proofs.predict_groups.Goals as goal
+use Rattle.mc_predict.proofs.predict_groups.Goals.{then-flags-sb-eq1, else-flags-sb-eq1}
 
 pub loop-sb-init : goal.loop-sb-init
 loop-sb-init c = (omega arith, turn-starts (omega arith))
@@ -20,11 +21,8 @@ loop-sb-preserved c =
     let a = c.args in
     let l = c.loop-sb in (
       omega arith,
-      ⊎_elim
-          (λ w. rw (w.12, w.9.ensures, w.1.ensures, w.2.ensures)
-          (group-predicted a.pair a.flags.now a.modes.now a.delays a.coefs a.left.now a.right.now a.history.now a.work.now l.invariant.1 (omega arith) c.requires.left_len.2 w.0.taken))
-          (λ w. rw w.1 (group-passed a.pair a.flags.now a.modes.now a.delays a.coefs a.left.now a.right.now a.history.now a.work.now l.invariant.1 w.0.left))
-          c.if-flags-sb-eq1.branch-raw,
+      elim c.if-flags-sb-eq1.branch [ then-flags-sb-eq1 w ↦ rw (w.work-is, w.predict_subband.ensures, w.line_of-line_left.ensures, w.line_of-line_right.ensures)
+          (group-predicted a.pair a.flags.now a.modes.now a.delays a.coefs a.left.now a.right.now a.history.now a.work.now l.invariant.1 (omega arith) c.requires.left_len.2 w.if-flags-sb-eq1.true) | else-flags-sb-eq1 w ↦ rw w.work-is (group-passed a.pair a.flags.now a.modes.now a.delays a.coefs a.left.now a.right.now a.history.now a.work.now l.invariant.1 w.if-flags-sb-eq1.false) ],
     )
 
 pub shape_of-work : goal.shape_of-work

@@ -25,4 +25,4 @@ returns-in-30 c =
     ⊎_elim (λ e. rw e (c.entry-in-30.ensures ∙ npred-agrees 21 mode)) (λ e. rw e (c.entry-in-30.ensures ∙ npred-agrees 30 mode)) c.in-30.is
 
 pub returns-in_default : goal.returns-in_default
-returns-in_default c = sym (predictors-other c.args.mode (rest-other c.in_default.in_default-own))
+returns-in_default c = sym (predictors-other c.args.mode (rest-other c.in_default.in_default-own.rest))

@@ -56,4 +56,4 @@ returns-in-30 c =
     c.in-30.is
 
 pub returns-in_default : goal.returns-in_default
-returns-in_default c = rw (predicted-other c.args.mode (rest-other c.in_default.in_default-own))
+returns-in_default c = rw (predicted-other c.args.mode (rest-other c.in_default.in_default-own.rest))

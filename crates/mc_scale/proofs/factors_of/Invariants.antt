@@ -11,7 +11,7 @@ use native.Mathlib.Omega.{arith}
 use Rattle.mc_scale.proofs.factors_of.Given as goal
 
 abbrev pub invariant-loop-i : goal.invariant-loop-i
-invariant-loop-i l = Filling (λ (l.i : ℕ). scalefactorOf (get_or l.scalefactor l.i 0)) 288 l.initial.factors l.factors l.i
+invariant-loop-i l = Filling (λ (i : ℕ). scalefactorOf (get_or l.scalefactor i 0)) 288 l.initial.factors l.factors l.i
 
 abbrev pub decreases-loop-i : goal.decreases-loop-i
 decreases-loop-i l = 288 - l.i

@@ -17,4 +17,4 @@ pub returns-in-4 : goal.returns-in-4
 returns-in-4 c = c.scale_column-in-4.ensures ∙ strided-same 32 _ _ 36 (λ j l. rw (c.in-4.is, c.chosen.ensures))
 
 pub returns-in_default : goal.returns-in_default
-returns-in_default c = c.scale_column-in_default.ensures ∙ strided-same 32 _ _ 36 (λ j l. rw (ne_eqb _ 3 c.in_default.in_default-own.0.1, ne_eqb _ 4 c.in_default.in_default-own.1))
+returns-in_default c = c.scale_column-in_default.ensures ∙ strided-same 32 _ _ 36 (λ j l. rw (ne_eqb _ 3 c.in_default.in_default-own.rest.0.1, ne_eqb _ 4 c.in_default.in_default-own.rest.1))

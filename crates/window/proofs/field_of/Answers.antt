@@ -1,5 +1,5 @@
 -- `cursor::field_of` meets its contract.
-use Prim.Native.Nat.{ℕ, ◌%◌, ◌^◌, ◌≤◌, ◌<◌}
+use Prim.Native.Nat.{ℕ, ◌-◌, ◌/◌, ◌%◌, ◌^◌, ◌≤◌, ◌<◌}
 use native.Mathlib.Nat.{mod-lt}
 use lib.Pow.{pow_pos, pow_mono}
 use Rattle.window.proofs.Window.{one_shl_64}
@@ -14,7 +14,4 @@ pub nonzero_rem-result : goal.nonzero_rem-result
 nonzero_rem-result c = omega (arith, pow_pos c.args.n, one_shl_64 c.args.n (omega arith))
 
 pub overflow_cast-result : goal.overflow_cast-result
-overflow_cast-result c = rw (one_shl_64 c.args.n (omega arith)) (small c.args.n _ (omega arith))
-
-pub returns : goal.returns
-returns c = rw (one_shl_64 c.args.n (omega arith))
+overflow_cast-result c = rw (one_shl_64 c.args.n (omega arith)) (omega (arith, small c.args.n (c.args.window / 2 ^ (64 - c.args.o - c.args.n)) (omega arith)))

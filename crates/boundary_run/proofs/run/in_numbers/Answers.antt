@@ -4,7 +4,7 @@ use borrow.Author.Rules.{rules}
 use Rattle.boundary_run.proofs.run.in_numbers.Goals as goal
 
 pub returns-in-Accepted : goal.returns-in-Accepted
-returns-in-Accepted c = told-accepted _ _ _ c.answer-1.given.1
+returns-in-Accepted c = told-accepted _ _ _ c.in-Accepted.is
 
 pub returns-in-Refused : goal.returns-in-Refused
-returns-in-Refused c = told-refused _ _ _ _ _ c.answer-in-Refused-1.given.1 c.number.ensures c.group.ensures c.code.ensures
+returns-in-Refused c = told-refused _ _ _ _ _ c.in-Refused.is c.number.ensures c.group.ensures c.code.ensures

@@ -13,9 +13,8 @@ use Rattle.boundary_run.proofs.run.run.Goals as goal
 
 pub slice_bounds-call-end-2 : goal.slice_bounds-call-end-2
 slice_bounds-call-end-2 c =
-    let q = c in
-    let l = ap length q.ramp-right.ensures ∙ length-tab (rampAt _) 1152 in
-    sym (length-take-le q.second_length-n.result q.ramp-right.result (omega (arith, l, q.second_length-n.ensures.1)))
+    let l = ap length c.ramp-right.ensures ∙ length-tab (rampAt _) 1152 in
+    sym (length-take-le c.second_length-n.result c.ramp-right.result (omega (arith, l, c.second_length-n.ensures.1)))
 
 pub slice_bounds-call-end-3 : goal.slice_bounds-call-end-3
 slice_bounds-call-end-3 c =
@@ -24,11 +23,9 @@ slice_bounds-call-end-3 c =
 
 pub returns : goal.returns
 returns c =
-    let s = c in
-    let n = s.before in
-    let a = n.before.before.before.before.args in
-    found-is (afterRun a.loan a.state) s.call-framed.result _ _ _ _ _ _ _ _
-    (is-run a.loan a.state _ _ _ _ _ n.before.before.before.ramp.ensures n.before.before.ramp2.ensures n.before.second-length.ensures.0 n.second-length2.ensures.0 s.call-framed.ensures)
+    let a = c.args in
+    found-is (afterRun a.loan a.state) c.call-framed.result _ _ _ _ _ _ _ _
+    (is-run a.loan a.state _ _ _ _ _ c.ramp-left.ensures c.ramp-right.ensures c.second_length-n.ensures.0 c.second_length-m.ensures.0 c.call-framed.ensures)
     c.all_are.ensures
     c.all_are-2.ensures
     c.all_are-3.ensures

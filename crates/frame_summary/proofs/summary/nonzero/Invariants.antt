@@ -1,9 +1,6 @@
 -- `frame_summary::summary::nonzero` meets its contract. The number of values that are not 0 from here on, with what was counted, stays the same.
-use Rattle.std.proofs.Common.{◌≡◌, ℕ, ◌+◌, ◌-◌, ◌≤◌, cond, length, get_or, drop, sym, refl, ap, ◌∙◌, ⊎_elim, arith, rules}
-use lib.Ieee.{nan, ne}
+use Rattle.std.proofs.Common.{◌≡◌, ◌-◌, ◌≤◌, length, drop}
 use Rattle.frame_summary.specs.Summary.{nonzeroFrom}
-use Rattle.frame_summary.specs.SummaryLaws.{nonzero-more, nonzero-none, nonzero-is, nonzero-not}
-use Rattle.floats.specs.Binary64.{zero64}
 use Rattle.frame_summary.proofs.summary.nonzero.Given as goal
 
 abbrev pub invariant-loop-i : goal.invariant-loop-i

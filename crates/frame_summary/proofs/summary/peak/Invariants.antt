@@ -1,8 +1,6 @@
 -- `frame_summary::summary::peak` meets its contract. The largest magnitude from here on, with what was found, stays the same.
-use Rattle.std.proofs.Common.{◌≡◌, ◌+◌, ◌-◌, length, drop, sym, refl, ap, ◌∙◌, ⊎_elim, arith, rules}
-use lib.Ieee.{Float}
-use Rattle.frame_summary.specs.Summary.{peakFrom, larger, magnitude}
-use Rattle.frame_summary.specs.SummaryLaws.{peak-more, peak-none, larger-is, larger-not}
+use Rattle.std.proofs.Common.{◌≡◌, ◌-◌, length, drop}
+use Rattle.frame_summary.specs.Summary.{peakFrom}
 use Rattle.floats.specs.Binary64.{zero64}
 use Rattle.frame_summary.proofs.summary.peak.Given as goal
 

@@ -38,5 +38,5 @@ returns-in-6 c = let e : name_of 6 ≡ name_of c.args.channel = sym (ap name_of 
 pub returns-in_default : goal.returns-in_default
 unfolding ascii tab
 returns-in_default c =
-    let r = c.in_default.in_default-own in
+    let r = c.in_default.in_default-own.rest in
     spelled _ c.text_of-in_default.ensures (name-last _ r.0.0.0.0.0.0.1 r.0.0.0.0.0.1 r.0.0.0.0.1 r.0.0.0.1 r.0.0.1 r.0.1 r.1)

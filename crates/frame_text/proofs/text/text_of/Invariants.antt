@@ -8,7 +8,7 @@ use Rattle.frame_text.specs.TextLaws.{copied}
 use Rattle.frame_text.proofs.text.text_of.Given as goal
 
 abbrev pub invariant-loop-k : goal.invariant-loop-k
-invariant-loop-k l = Filling (λ l.k. get_or l.s l.k 0) (length l.s) l.initial.bytes l.bytes l.k
+invariant-loop-k l = Filling (λ k. get_or l.s k 0) (length l.s) l.initial.bytes l.bytes l.k
 
 abbrev pub decreases-loop-k : goal.decreases-loop-k
 decreases-loop-k l = length l.s - l.k

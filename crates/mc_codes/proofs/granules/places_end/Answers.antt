@@ -7,6 +7,7 @@ use native.Mathlib.Nat.{eq-or-lt_of_le}
 use native.Mathlib.Omega.{arith}
 use lib.ListN.{get_or}
 use Rattle.mc_codes.proofs.granules.places_end.Goals as goal
+use Rattle.mc_codes.proofs.granules.places_end.Goals.{then-own-i-ne0, else-own-i-ne0}
 
 -- a place without samples
 more : (own : List ℕ) (end i : ℕ) → ((k : ℕ) → end ≤ k → k < i → get_or own k 0 ≡ 0) → get_or own i 0 ≡ 0 → (k : ℕ) → end ≤ k → k < i + 1 → get_or own k 0 ≡ 0
@@ -19,7 +20,7 @@ pub loop-i-preserved : goal.loop-i-preserved
 loop-i-preserved c =
     let l = c.loop-i in
     let own = c.args.own.now in
-    (omega arith, ⊎_elim (λ w. rw w.1 (omega arith)) (λ w. rw w.1 (omega arith)) c.if-own-i-ne0.branch-raw, ⊎_elim (λ w. rw w.1 (λ k h m. absurd (omega arith))) (λ w. rw w.1 (more own l.end l.i l.invariant.2 w.0.left)) c.if-own-i-ne0.branch-raw)
+    (omega arith, elim c.if-own-i-ne0.branch [ then-own-i-ne0 w ↦ rw w.end-is (omega arith) | else-own-i-ne0 w ↦ rw w.end-is (omega arith) ], elim c.if-own-i-ne0.branch [ then-own-i-ne0 w ↦ rw w.end-is (λ k h m. absurd (omega arith)) | else-own-i-ne0 w ↦ rw w.end-is (more own l.end l.i l.invariant.2 w.if-own-i-ne0.false) ])
 
 pub returns : goal.returns
 returns c =

@@ -11,6 +11,7 @@ use Rattle.cursor.specs.CursorLaws.{cur-fits}
 use Rattle.mc_payload.specs.Payload.{samplesAt}
 use Rattle.mc_codes.proofs.GranulesRead.{kept-length, lfe-width, width-below, samples-read, samples-skip, granule-end}
 use Rattle.mc_codes.proofs.granules.read_granule.Goals as goal
+use Rattle.mc_codes.proofs.granules.read_granule.Goals.{then-own-i-ne0, else-own-i-ne0}
 
 pub read-cursor-requires : goal.read-cursor-requires
 read-cursor-requires c = search (lfe-width, rules)
@@ -32,8 +33,8 @@ loop-i-preserved c =
     let skip = samples-skip s.args.bytes.now s.args.limit s.args.own.now s.args.gr _ l.cursor l.i l.codes l.invariant.3 s.args.end c.loop-i-test.true l.invariant.1 in (
       omega arith,
       l.invariant.1,
-      ⊎_elim (λ w. search kept-length) (λ w. search kept-length) c.if-own-i-ne0.branch-raw,
-      ⊎_elim (λ w. read _ _ w.0.taken _ s.requires.widths_value.0 _ s.requires.widths_value.1 _ _ w.4.ensures w.7 w.8) (λ w. skip _ _ w.0.left w.1 w.2) c.if-own-i-ne0.branch-raw,
+      elim c.if-own-i-ne0.branch [ then-own-i-ne0 w ↦ search kept-length | else-own-i-ne0 w ↦ search kept-length ],
+      elim c.if-own-i-ne0.branch [ then-own-i-ne0 w ↦ read _ _ w.if-own-i-ne0.true _ s.requires.widths_value.0 _ s.requires.widths_value.1 _ _ w.read_samples.ensures w.cursor-is w.codes-is | else-own-i-ne0 w ↦ skip _ _ w.if-own-i-ne0.false w.cursor-is w.codes-is ],
     )
 
 pub returns : goal.returns

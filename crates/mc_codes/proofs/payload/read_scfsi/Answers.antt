@@ -11,6 +11,7 @@ use Rattle.cursor.specs.CursorLaws.{cur-fits}
 use Rattle.mc_payload.specs.Payload.{scfsiAt, scfsi}
 use Rattle.mc_codes.proofs.ScfsiRead.{scfsi-read, scfsi-skip, scfsi-end}
 use Rattle.mc_codes.proofs.payload.read_scfsi.Goals as goal
+use Rattle.mc_codes.proofs.payload.read_scfsi.Goals.{then-steps-i-ne0, else-steps-i-ne0}
 
 pub loop-i-init : goal.loop-i-init
 unfolding scfsi
@@ -20,7 +21,7 @@ pub overflow_cast-codes : goal.overflow_cast-codes
 overflow_cast-codes c = search (cur-fits, lit≤)
 
 pub loop-i-preserved : goal.loop-i-preserved
-loop-i-preserved c = (omega arith, ⊎_elim (λ w. search scfsi-read) (λ w. search scfsi-skip) c.if-steps-i-ne0.branch-raw)
+loop-i-preserved c = (omega arith, elim c.if-steps-i-ne0.branch [ then-steps-i-ne0 w ↦ search scfsi-read | else-steps-i-ne0 w ↦ search scfsi-skip ])
 
 pub returns : goal.returns
 returns c = search scfsi-end

@@ -56,12 +56,12 @@ unfolding layout_of
 returns-then-self c =
     let front = frontChannels c.args.self.front in
     let first = c.push-then-self.ensures front c.front_layout-out.ensures in
-    let rest = c.in_default.in_default-own in
+    let rest = c.in_default.in_default-own.rest in
     rw (ne_eqb _ 2 rest.0.1, ne_eqb _ 1 rest.1, c.if-self.true)
     (rw (append_snoc front secondLeft) at (c.push-then-self-2.ensures (front ++ secondLeft ∷ []) first))
 
 pub returns-else-self : goal.returns-else-self
 unfolding layout_of
 returns-else-self c =
-    let rest = c.in_default.in_default-own in
+    let rest = c.in_default.in_default-own.rest in
     rw (ne_eqb _ 2 rest.0.1, ne_eqb _ 1 rest.1, c.if-self.false, append-nil) c.front_layout-out.ensures

@@ -18,5 +18,5 @@ returns-in-22 c = rw c.in-22.is (refl, refl, refl)
 
 pub returns-in_default : goal.returns-in_default
 returns-in_default c =
-    let none = other c.in_default.in_default-own.0.0.0.1 c.in_default.in_default-own.0.0.1 (λ e. c.in_default.in_default-own.0.1 (inr e)) c.in_default.in_default-own.1 (λ e. c.in_default.in_default-own.0.1 (inl e)) in
+    let none = other c.in_default.in_default-own.rest.0.0.0.1 c.in_default.in_default-own.rest.0.0.1 (λ e. c.in_default.in_default-own.rest.0.1 (inr e)) c.in_default.in_default-own.rest.1 (λ e. c.in_default.in_default-own.rest.0.1 (inl e)) in
     simp byPair-other (refl, refl, refl)

@@ -60,6 +60,6 @@ returns-in-30 c =
 pub returns-in_default : goal.returns-in_default
 unfolding In sources0
 returns-in_default c =
-    let o = rest-other c.in_default.in_default-own in
+    let o = rest-other c.in_default.in_default-own.rest in
     whole c.args.pair c.args.mode c.sources_in-in_default.result
     (rw (byPair-other sources3 sources2 sources1 sources2 sources1 sources0 o, main-other o) c.sources_in-in_default.ensures)

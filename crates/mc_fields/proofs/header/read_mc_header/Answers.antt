@@ -26,30 +26,17 @@ overflow_cast-no_of_multi_lingual_ch c = search (cur-fits, lit≤)
 
 pub returns : goal.returns
 returns c =
-    let k₁₃ = c in
-    let k₁₂ = k₁₃.before in
-    let k₁₁ = k₁₂.before in
-    let k₁₀ = k₁₁.before in
-    let k₉ = k₁₀.before.before in
-    let k₈ = k₉.before.before in
-    let k₇ = k₈.before in
-    let k₆ = k₇.before in
-    let k₅ = k₆.before.before in
-    let k₄ = k₅.before.before in
-    let k₃ = k₄.before.before in
-    let k₂ = k₃.before in
-    let k₁ = k₂.before.before in
     header-ran _ _ _ _ _ _ _ _ _ _ _ _ _ _ _ _
-    k₁.read.ensures
-    k₂.bits-if.ensures
-    k₃.read2.ensures
-    k₄.read3.ensures
-    k₅.read4.ensures
-    k₆.read5.ensures
-    k₇.read6.ensures
-    k₈.read7.ensures
-    k₉.read8.ensures
-    k₁₀.read9.ensures
-    k₁₁.read10.ensures
-    k₁₂.read11.ensures
-    k₁₃.read-start.ensures
+    c.read-ext.ensures
+    c.bits_if.ensures
+    c.read-n_ad.ensures
+    c.read-centre.ensures
+    c.read-surround.ensures
+    c.read-lfe.ensures
+    c.read-mix.ensures
+    c.read-procedure.ensures
+    c.read-lingual.ensures
+    c.read-half.ensures
+    c.read-layer3.ensures
+    c.read-bit.ensures
+    c.read-start.ensures

@@ -7,6 +7,7 @@ use lib.ListN.{length}
 use Rattle.mc_output.specs.Code.OutputByMix.{withSecond, beyond}
 use Rattle.mc_output.specs.Laws.LayOut.{second-long, beyond-long}
 use Rattle.mc_output.proofs.output.lay_out.Goals as goal
+use Rattle.mc_output.proofs.output.lay_out.Goals.{then-x, else-x}
 
 pub write_second-requires : goal.write_second-requires
 write_second-requires c =
@@ -17,7 +18,7 @@ write_second-requires c =
 pub clear_beyond-requires : goal.clear_beyond-requires
 clear_beyond-requires c =
     let s = c in
-    (⊎_elim (λ w. ap length (w.5 ∙ w.2.ensures) ∙ second-long s.args.x s.args.work.now s.args.output.now) (λ w. ap length w.1 ∙ s.requires.1) c.if-x.branch-raw, s.requires.2)
+    (elim c.if-x.branch [ then-x w ↦ ap length (w.output-is ∙ w.write_second.ensures) ∙ second-long s.args.x s.args.work.now s.args.output.now | else-x w ↦ ap length w.output-is ∙ s.requires.1 ], s.requires.2)
 
 pub shape_of-output : goal.shape_of-output
 shape_of-output c = ap length c.clear_beyond.ensures ∙ (beyond-long _ _ ∙ sym c.requires.1)
@@ -28,4 +29,4 @@ returns c =
     let a = c.args in
     c.clear_beyond.ensures
     ∙ ap (λ (l : List Float). beyond a.x.channels l)
-    (⊎_elim (λ w. rw w.0.taken (w.5 ∙ w.2.ensures)) (λ w. rw w.0.left w.1) c.if-x.branch-raw)
+    (elim c.if-x.branch [ then-x w ↦ rw w.if-x.true (w.output-is ∙ w.write_second.ensures) | else-x w ↦ rw w.if-x.false w.output-is ])

@@ -9,6 +9,7 @@ use Rattle.fill.specs.ByTurn.{ByTurn}
 use Rattle.mc_output.specs.Code.OutputByMix.{withSecondAt, withSecond}
 use Rattle.mc_output.specs.Laws.LayOut.{laying-starts, laying-more, laying-skip, laying-ends}
 use Rattle.mc_output.proofs.output.write_second.Goals as goal
+use Rattle.mc_output.proofs.output.write_second.Goals.{then-i-limit, else-i-limit}
 
 pub loop-i-init : goal.loop-i-init
 loop-i-init c = (omega arith, c.requires.1, laying-starts c.args.x.channels c.args.x.main c.args.x.limit c.args.work.now c.args.output.now c.requires.1)
@@ -21,10 +22,7 @@ loop-i-preserved c =
     let a = s.args in (
       omega arith,
       l.invariant.1,
-      ⊎_elim
-          (λ w. rw w.2 (laying-more a.x.channels a.x.main a.x.limit a.work.now a.output.now l.invariant.1 l.output l.i l.invariant.2 h s.requires.3 w.0.taken))
-          (λ w. rw w.1 (laying-skip a.x.channels a.x.main a.x.limit a.work.now a.output.now l.invariant.1 l.output l.i l.invariant.2 w.0.left))
-          c.if-i-limit.branch-raw,
+      elim c.if-i-limit.branch [ then-i-limit w ↦ rw w.output-is (laying-more a.x.channels a.x.main a.x.limit a.work.now a.output.now l.invariant.1 l.output l.i l.invariant.2 h s.requires.3 w.if-i-limit.true) | else-i-limit w ↦ rw w.output-is (laying-skip a.x.channels a.x.main a.x.limit a.work.now a.output.now l.invariant.1 l.output l.i l.invariant.2 w.if-i-limit.false) ],
     )
 
 pub shape_of-output : goal.shape_of-output

@@ -26,9 +26,8 @@ bounds-bases-k c = group-small _ _ c.sbgr_of_subband.ensures (omega arith)
 
 pub steps_by-requires : goal.steps_by-requires
 steps_by-requires c =
-    let l = c in
-    let small = group-small _ _ l.sbgr_of_subband.ensures (omega arith) in
-    let tables = l.requires in
+    let small = group-small _ _ c.sbgr_of_subband.ensures (omega arith) in
+    let tables = c.requires in
     (tables.0 _ small, tables.1 _ small, omega arith, omega arith)
 
 pub own_by-requires : goal.own_by-requires
@@ -36,25 +35,21 @@ own_by-requires c = (omega arith, omega arith)
 
 pub loop-i-preserved : goal.loop-i-preserved
 loop-i-preserved c =
-    let t = c in
-    let g = t.before in
-    let l = g.before.before in
-    let a = l.before.args in
-    let e = g.sbgr-of-subband.ensures in
-    let h = t.carried-there.ensures in (
-      more l.loop.invariant.0 (omega arith) (steps-place _ _ e _ _ h a.sources.now a.bases.now a.nb-steps.now a.base-nb-steps.now _ c.steps_by.ensures),
+    let a = c.args in
+    let e = c.sbgr_of_subband.ensures in
+    let h = c.carried-there.ensures in (
+      more c.loop-i.invariant.0 (omega arith) (steps-place _ _ e _ _ h a.sources.now a.bases.now a.nb_steps.now a.base_nb_steps.now _ c.steps_by.ensures),
       (
-        more l.loop.invariant.1.0 (omega arith) (own-place _ _ e _ _ h a.sources.now a.bases.now a.nb-steps.now a.base-nb-steps.now _ c.own_by.ensures),
-        (more l.loop.invariant.1.1.0 (omega arith) (group-place _ _ e a.sources.now), more l.loop.invariant.1.1.1 (omega arith) (group-place _ _ e a.bases.now)),
+        more c.loop-i.invariant.1.0 (omega arith) (own-place _ _ e _ _ h a.sources.now a.bases.now a.nb_steps.now a.base_nb_steps.now _ c.own_by.ensures),
+        (more c.loop-i.invariant.1.1.0 (omega arith) (group-place _ _ e a.sources.now), more c.loop-i.invariant.1.1.1 (omega arith) (group-place _ _ e a.bases.now)),
       ),
     )
 
 pub returns : goal.returns
 unfolding places_by
 returns c =
-    let l = c in
-    let steps = ends-all l.loop-i.invariant.0 (omega arith) refl in
-    let own = ends-all l.loop-i.invariant.1.0 (omega arith) refl in
-    let source = ends-all l.loop-i.invariant.1.1.0 (omega arith) refl in
-    let base = ends-all l.loop-i.invariant.1.1.1 (omega arith) refl in
+    let steps = ends-all c.loop-i.invariant.0 (omega arith) refl in
+    let own = ends-all c.loop-i.invariant.1.0 (omega arith) refl in
+    let source = ends-all c.loop-i.invariant.1.1.0 (omega arith) refl in
+    let base = ends-all c.loop-i.invariant.1.1.1 (omega arith) refl in
     cc

@@ -29,7 +29,7 @@ unfolding fallbackOf
 returns-in-1 c = ⊎_elim (λ e. rw e) (⊎_elim (λ e. rw e) (λ e. rw e)) c.in-1.is
 
 pub returns-then-dyn_cross_lr : goal.returns-then-dyn_cross_lr
-returns-then-dyn_cross_lr c = rw (free _ _ c.in_default.in_default-own, c.if-dyn_cross_lr.true)
+returns-then-dyn_cross_lr c = rw (free _ _ c.in_default.in_default-own.rest, c.if-dyn_cross_lr.true)
 
 pub returns-else-dyn_cross_lr : goal.returns-else-dyn_cross_lr
-returns-else-dyn_cross_lr c = rw (free _ _ c.in_default.in_default-own, c.if-dyn_cross_lr.false)
+returns-else-dyn_cross_lr c = rw (free _ _ c.in_default.in_default-own.rest, c.if-dyn_cross_lr.false)

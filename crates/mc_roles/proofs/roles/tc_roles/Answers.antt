@@ -41,5 +41,5 @@ returns-in-21 c = rw c.in-21.is (whole 21 c.args.tc (lit< tt) c.roles_in-in-21.e
 
 pub returns-in_default : goal.returns-in_default
 returns-in_default c =
-    let rest = c.in_default.in_default-own in
+    let rest = c.in_default.in_default-own.rest in
     rw (roles-other c.args.tc (other rest.0.0.0.0.1 rest.0.0.0.1 rest.0.0.1 rest.0.1 rest.1))

@@ -17,11 +17,9 @@ loop-gr-init c = (omega arith, c.requires.n_value.2, spread_none _ _ _)
 
 pub three_values-values-requires : goal.three_values-values-requires
 three_values-values-requires c =
-    let l = c in
-    let class = l.before in
-    let p = class.before.before.before.requires in
-    let a = class.before.before.before.args in
-    values-fit a.n a.granules.now a.i l.loop-gr.gr p.0.0 p.1 (omega arith) _ (class-found _ _ class.before.class-index.ensures _ class.class-at.ensures)
+    let p = c.requires in
+    let a = c.args in
+    values-fit a.n a.granules.now a.i c.loop-gr.gr p.n_value.0 p.place_fits (omega arith) _ (class-found _ _ c.class_index.ensures _ c.class_at-class.ensures)
 
 pub bounds-raw-k-in-loop-gr : goal.bounds-raw-k-in-loop-gr
 bounds-raw-k-in-loop-gr c = simp length-set (omega arith)
@@ -31,16 +29,13 @@ bounds-raw-k-in-loop-gr-2 c = simp length-set (omega arith)
 
 pub loop-gr-preserved : goal.loop-gr-preserved
 loop-gr-preserved c =
-    let l = c in
-    let class = l.before in
-    let found = class-found _ _ class.before.class-index.ensures _ class.class-at.ensures in
-    (omega arith, simp length-set l.loop-gr.invariant.1, place-next _ _ _ _ _ found _ c.three_values-values.ensures _ _ _ l.loop-gr.invariant.2)
+    let found = class-found _ _ c.class_index.ensures _ c.class_at-class.ensures in
+    (omega arith, simp length-set c.loop-gr.invariant.1, place-next _ _ _ _ _ found _ c.three_values-values.ensures _ _ _ c.loop-gr.invariant.2)
 
 pub shape_of-raw : goal.shape_of-raw
 shape_of-raw c = c.loop-gr.invariant.1 ∙ sym c.requires.n_value.2
 
 pub returns : goal.returns
 returns c =
-    let l = c in
-    let e : 3 * l.loop-gr.gr ≡ 36 = omega arith in
-    rw e at l.loop-gr.invariant.2
+    let e : 3 * c.loop-gr.gr ≡ 36 = omega arith in
+    rw e at c.loop-gr.invariant.2

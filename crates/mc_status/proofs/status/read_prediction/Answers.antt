@@ -27,15 +27,10 @@ read_predsi-counts-requires c = (omega arith, search predictors-if-most)
 
 pub loop-g-preserved : goal.loop-g-preserved
 loop-g-preserved c =
-    let k₄ = c in
-    let k₃ = k₄.before in
-    let k₂ = k₃.before.before.before.before in
-    let k₁ = k₂.before in
-    let k₀ = k₁.before in
-    let loop = k₀.before.loop in
-    let cross = k₀.before.before.before.args.dyn-cross.now in (
+    let loop = c.loop-g in
+    let cross = c.args.dyn_cross.now in (
       omega arith,
-      prediction-next _ _ _ _ cross _ _ _ loop.table _ _ _ _ _ loop.invariant.1 k₀.loop-test.true k₁.bits-if.ensures k₂.read.ensures k₃.predictors-if.ensures k₄.read_predsi-counts.ensures,
+      prediction-next _ _ _ _ cross _ _ _ loop.table _ _ _ _ _ loop.invariant.1 c.loop-g-test.true c.bits_if.ensures c.read-flag.ensures c.predictors_if-predictors.ensures c.read_predsi-counts.ensures,
     )
 
 pub returns : goal.returns

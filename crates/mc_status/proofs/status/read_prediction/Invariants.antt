@@ -13,7 +13,7 @@ use Rattle.mc_status.proofs.StatusWalk.{predictors-if-most, prediction-next, pre
 use Rattle.mc_status.proofs.status.read_prediction.Given as goal
 
 abbrev pub invariant-loop-g : goal.invariant-loop-g
-invariant-loop-g l = let predictors : ℕ → ℕ = λ l.g. predictorsOf l.pair (modeAt l.dyn_cross l.g) in
+invariant-loop-g l = let predictors : ℕ → ℕ = λ g. predictorsOf l.pair (modeAt l.dyn_cross g) in
     (l.g ≤ 8) × (run_from l.bytes l.limit l.initial.cursor (prediction l.on predictors) ≡ run_from l.bytes l.limit l.cursor (times (8 - l.g) l.g (predictionAt l.on predictors) l.table))
 
 abbrev pub decreases-loop-g : goal.decreases-loop-g

@@ -16,5 +16,5 @@ returns-in-8 c = rw c.in-8.is
 
 pub returns-in_default : goal.returns-in_default
 returns-in_default c =
-    let r = c.in_default.in_default-own in
+    let r = c.in_default.in_default-own.rest in
     rw (number-rest _ c.requires r.0.0.0.1 r.0.0.1 r.0.1 r.1)

@@ -7,9 +7,7 @@ use Rattle.parts.proofs.unpack.unpack_under.Goals as goal
 
 pub returns : goal.returns
 returns c =
-    let w = c in
-    let u = w.before in
-    let p = u.before.before.before.before.before.before.before.before.before.before.before.before.before.requires in
-    let a = u.before.before.before.before.before.before.before.before.before.before.before.before.before.args in
-    let l = loanBy a.reading a.rate a.base-channels a.header a.status a.lfe-allocation a.nb-steps.now a.base-nb-steps.now in
-    left_by u.unpack.result a.status.mc_prediction a.scfsi.now a.delays.now a.coefs.now a.scalefactors.now a.raw.now a.lfe.now _ _ _ _ _ _ w.write_tables.ensures _ c.pack_tables.ensures l refl p.4 p.5 a.payload.now a.payload-bits u.unpack.ensures
+    let p = c.requires in
+    let a = c.args in
+    let l = loanBy a.reading a.rate a.base_channels a.header a.status a.lfe_allocation a.nb_steps.now a.base_nb_steps.now in
+    left_by c.unpack-u.result a.status.mc_prediction a.scfsi.now a.delays.now a.coefs.now a.scalefactors.now a.raw.now a.lfe.now _ _ _ _ _ _ c.write_tables.ensures _ c.pack_tables.ensures l refl p.4 p.5 a.payload.now a.payload_bits c.unpack-u.ensures

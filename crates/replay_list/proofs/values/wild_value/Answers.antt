@@ -22,4 +22,4 @@ unfolding wildOf
 returns-in-4 c = rw c.in-4.is below_all
 
 pub returns-in_default : goal.returns-in_default
-returns-in_default c = let r = c.in_default.in_default-own in no_number ∙ wild-other c.args.kind r.0.0.0.1 r.0.0.1 r.0.1 r.1
+returns-in_default c = let r = c.in_default.in_default-own.rest in no_number ∙ wild-other c.args.kind r.0.0.0.1 r.0.0.1 r.0.1 r.1

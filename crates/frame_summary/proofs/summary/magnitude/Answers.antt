@@ -1,8 +1,0 @@
--- `frame_summary::summary::magnitude` meets its contract.
-use Rattle.frame_summary.proofs.summary.magnitude.Goals as goal
-
-pub returns-then-x : goal.returns-then-x
-returns-then-x c = rw c.if-x.true
-
-pub returns-else-x : goal.returns-else-x
-returns-else-x c = rw c.if-x.false
