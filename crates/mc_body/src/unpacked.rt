@@ -63,7 +63,7 @@ pub fn unpacked_frame<'a>(
     lfe: &mut [f64],
 ) -> Framed
     requires long { Long base_channels (baseFrom raw_left.now raw_right.now scaled_left.now scaled_right.now) (buffersFrom raw.old work.old output.old lfe.old) }
-    requires lfe_allocation_bound { (lfe_allocation ≤ 15) × (header.surround ≤ 3) × (desk ≤ 7) }
+    requires low { (lfe_allocation ≤ 15) × (header.surround ≤ 3) × (desk ≤ 7) }
     ensures { after_of result (buffersFrom raw.new work.new output.new lfe.new) ≡ afterUnpacked state desk (settingsOf (loanBy reading rate base_channels header status lfe_allocation nb_steps.now base_nb_steps.now)) head_bits payload.now payload_bits (baseFrom raw_left.now raw_right.now scaled_left.now scaled_right.now) (buffersFrom raw.old work.old output.old lfe.old) }
 {
     let s = settings(

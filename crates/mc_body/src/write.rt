@@ -42,7 +42,7 @@ pub fn finish_payload<'a>(
     work: &mut [f64],
     output: &mut [f64],
 )
-    requires raw_value { (raw.now ≡ rawOf s (codes_of p.codes)) × (p.places ≡ places_of s) × Writable s (codes_of p.codes) × Delayed p.codes.predictors }
+    requires recorded { (raw.now ≡ rawOf s (codes_of p.codes)) × (p.places ≡ places_of s) × Writable s (codes_of p.codes) × Delayed p.codes.predictors }
     requires base_fits { BaseFits s (baseFrom raw_left.now raw_right.now scaled_left.now scaled_right.now) × (length work.old ≡ 3456) × (length output.old ≡ 5760) }
     ensures { (work.new ≡ workOf s (recordOf s (codes_of p.codes)) (baseFrom raw_left.now raw_right.now scaled_left.now scaled_right.now) history.now) × (output.new ≡ outputOf s (baseFrom raw_left.now raw_right.now scaled_left.now scaled_right.now) work.new) }
 {

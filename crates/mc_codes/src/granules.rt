@@ -103,8 +103,8 @@ fn read_granule<'a>(
     groups: &'a [bool; 96],
     codes: &mut [u16],
 ) -> Cursor
-    requires gr_bound { (gr < 12) × (lfe ≤ 15) × (length codes.old ≡ 3468) }
-    requires widths_value { (widths.now ≡ widthsOf own.now) × (groups.now ≡ groups_of own.now) × NoneFrom own.now end }
+    requires room { (gr < 12) × (lfe ≤ 15) × (length codes.old ≡ 3468) }
+    requires tables { (widths.now ≡ widthsOf own.now) × (groups.now ≡ groups_of own.now) × NoneFrom own.now end }
     ensures { Ran bytes.now limit c (granuleAt lfe own.now gr codes.old) result codes.new }
 {
     let first = 289 * gr;

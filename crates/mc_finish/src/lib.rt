@@ -28,9 +28,9 @@ pub fn finish<'a, 'b>(
     requires tables { Tables s steps.now source.now base.now }
     requires record_fits { RecordFits (recordFrom raw.now scalefactor.now delays coefs) }
     requires base_fits { BaseFits s (baseFrom raw_left.now raw_right.now scaled_left.now scaled_right.now) }
-    requires work_len { (length work.old ≡ 3456) × (length output.old ≡ 5760) }
-    ensures work_after { work.new ≡ workOf s (recordFrom raw.now scalefactor.now delays coefs) (baseFrom raw_left.now raw_right.now scaled_left.now scaled_right.now) history.now }
-    ensures output_after { output.new ≡ outputOf s (baseFrom raw_left.now raw_right.now scaled_left.now scaled_right.now) work.new }
+    requires lengths { (length work.old ≡ 3456) × (length output.old ≡ 5760) }
+    ensures work { work.new ≡ workOf s (recordFrom raw.now scalefactor.now delays coefs) (baseFrom raw_left.now raw_right.now scaled_left.now scaled_right.now) history.now }
+    ensures output { output.new ≡ outputOf s (baseFrom raw_left.now raw_right.now scaled_left.now scaled_right.now) work.new }
 {
     mc_scale::scale(
         steps,

@@ -123,8 +123,8 @@ fn head_fits(bytes: &[u8], bits: usize, reading: u32, base_channels: u8) -> bool
 // Reads the head in the first `bits` bits. A wrong loan is refused before any bit is read, a centre code after the header, and a forbidden
 // crosstalk code after the last bit.
 pub fn read_head(bytes: &[u8], bits: usize, reading: u32, base_channels: u8) -> McHead
-    ensures result_value { outcomeOf result ≡ head_of reading bytes.now bits base_channels }
-    ensures result_value_2 { values_of result ≡ valuesAfter (head_of reading bytes.now bits base_channels) }
+    ensures answer { outcomeOf result ≡ head_of reading bytes.now bits base_channels }
+    ensures values { values_of result ≡ valuesAfter (head_of reading bytes.now bits base_channels) }
 {
     if !head_fits(bytes, bits, reading, base_channels) {
         return McHead::refused(McError::InvalidArgument);

@@ -97,8 +97,8 @@ fn predict_subband(
     right: &[f64; 45],
     work: &mut [f64],
 )
-    requires sb_bound { (sb < 32) × (length work.old ≡ 3456) }
-    requires by_index { (px : ℕ) → px < 6 → get_or delays px 0 ≤ 7 }
+    requires place { (sb < 32) × (length work.old ≡ 3456) }
+    requires delays_low { (px : ℕ) → px < 6 → get_or delays px 0 ≤ 7 }
     ensures { work.new ≡ subbandOf sb (predictedOf pair mode) delays coefs left.now right.now work.old }
 {
     let predicted = predictable_channels(pair, mode);
@@ -132,8 +132,8 @@ fn predict_groups(
     history: &[f64; 576],
     work: &mut [f64],
 )
-    requires left_len { (length left.now ≡ 1152) × (length right.now ≡ 1152) × (length work.old ≡ 3456) }
-    requires by_index { (g px : ℕ) → g < 8 → px < 6 → get_or (get_or delays g []) px 0 ≤ 7 }
+    requires lengths { (length left.now ≡ 1152) × (length right.now ≡ 1152) × (length work.old ≡ 3456) }
+    requires delays_low { (g px : ℕ) → g < 8 → px < 6 → get_or (get_or delays g []) px 0 ≤ 7 }
     ensures { work.new ≡ groups_of pair flags.now modes.now delays coefs left.now right.now history.now work.old }
 {
     for sb in 0usize..8 {
@@ -164,8 +164,8 @@ pub fn predict<'a>(
     history: &[f64; 576],
     work: &mut [f64],
 )
-    requires left_len { (length left.now ≡ 1152) × (length right.now ≡ cond (eqb s.base_channels 1) 0 1152) × (length work.old ≡ 3456) }
-    requires by_index { (g px : ℕ) → g < 8 → px < 6 → get_or (get_or delays g []) px 0 ≤ 7 }
+    requires lengths { (length left.now ≡ 1152) × (length right.now ≡ cond (eqb s.base_channels 1) 0 1152) × (length work.old ≡ 3456) }
+    requires delays_low { (g px : ℕ) → g < 8 → px < 6 → get_or (get_or delays g []) px 0 ≤ 7 }
     ensures { work.new ≡ predictedWork s delays coefs left.now right.now history.now work.old }
 {
     let config = McConfig::from_header(s.header, s.base_channels);

@@ -32,7 +32,7 @@ fn three_values(class: QuantClass, x: u16, y: u16, z: u16) -> [f64; 3]
 
 // The 36 raw values of place i, of n steps.
 fn write_place(n: u32, i: usize, granules: &[u16; 3468], raw: &mut [f64])
-    requires n_value { (isClass n ≡ true) × (i < 96) × (length raw.old ≡ 3456) }
+    requires place { (isClass n ≡ true) × (i < 96) × (length raw.old ≡ 3456) }
     requires place_fits { PlaceFits n granules.now i }
     ensures { raw.new ≡ spread (rawBy n granules.now i) (1152 * (i % 3) + i / 3) 36 raw.old }
 {

@@ -78,9 +78,9 @@ pub fn scale<'a>(
     work: &mut [f64],
 )
     requires places_fit { PlacesFit source.now base.now scalefactor.now left.now right.now }
-    requires raw_len { (length raw.now ≡ 3456) × (length work.old ≡ 3456) }
-    ensures work_after { work.new ≡ scaledByPlace steps.now source.now base.now (factorsOf scalefactor.now) raw.now left.now right.now }
-    ensures work_after_2 { work.new ≡ twoStepsByPlace steps.now source.now base.now (factorsOf scalefactor.now) raw.now left.now right.now work.old }
+    requires lengths { (length raw.now ≡ 3456) × (length work.old ≡ 3456) }
+    ensures scaled { work.new ≡ scaledByPlace steps.now source.now base.now (factorsOf scalefactor.now) raw.now left.now right.now }
+    ensures two_steps { work.new ≡ twoStepsByPlace steps.now source.now base.now (factorsOf scalefactor.now) raw.now left.now right.now work.old }
 {
     let factors = factors_of(scalefactor);
     fill::clear(work);

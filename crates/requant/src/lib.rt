@@ -8,7 +8,7 @@ use bitalloc::QuantClass;
 // A code of n bits as a fraction: its first bit inverted, then read in two's complement, which is the code less
 // 2^(n-1), and over 2^(n-1). The inverse of a power of two is exact, and a product is quicker than a quotient.
 fn fraction_of(code: u32, n: u32) -> f64
-    requires le_n { (1 ≤ n) × (n ≤ 16) }
+    requires width { (1 ≤ n) × (n ≤ 16) }
     requires code_bound { code < 2 ^ n }
     ensures { result ≡ fraction n code }
 {
@@ -19,7 +19,7 @@ fn fraction_of(code: u32, n: u32) -> f64
 
 // The raw value of a sample's code: s'' = C * (s''' + D).
 pub fn requantize_code(class: QuantClass, code: u32) -> f64
-    requires bound { (1 ≤ class.bits_per_sample) × (class.bits_per_sample ≤ 16) }
+    requires width { (1 ≤ class.bits_per_sample) × (class.bits_per_sample ≤ 16) }
     requires code_bound { code < 2 ^ class.bits_per_sample }
     ensures { result ≡ requantized class code }
 {
@@ -41,7 +41,7 @@ pub fn degroup(nb_steps: u32, combined: u32) -> [u32; 3]
 
 // The value of an LFE code of nb bits: s'' = (2^nb / (2^nb - 1)) * (s''' + 2^(1-nb)).
 pub fn requantize_lfe(code: u32, nb: u32) -> f64
-    requires le_nb { (2 ≤ nb) × (nb ≤ 16) }
+    requires width { (2 ≤ nb) × (nb ≤ 16) }
     requires code_bound { code < 2 ^ nb }
     ensures { result ≡ lfeOf nb code }
 {
@@ -53,7 +53,7 @@ pub fn requantize_lfe(code: u32, nb: u32) -> f64
 
 // An LFE sample under an allocation from 1 to 15, scaled.
 pub fn lfe_sample(allocation: u32, scalefactor: usize, code: u32) -> f64
-    requires le_allocation { (1 ≤ allocation) × (allocation ≤ 15) }
+    requires allocation { (1 ≤ allocation) × (allocation ≤ 15) }
     requires scalefactor_bound { scalefactor < 63 }
     requires code_bound { code < 2 ^ (allocation + 1) }
     ensures { result ≡ lfeSampleOf allocation scalefactor code }

@@ -1,4 +1,5 @@
 -- `leaves::mc_leaf_degroup` meets its contract: each return answers what `degroupLeaf` picks by the tests that led there.
+use mathlib.Core.Bool.{not}
 use mathlib.Core.Path.{◌≡◌, sym, ap, ◌∙◌, subst}
 use mathlib.Core.Bool.{Bool, true, false}
 use Prim.Native.Nat.{ℕ, ◌^◌, ◌≤◌, ◌<◌}
@@ -50,7 +51,7 @@ pub has_bits-requires : goal.has_bits-requires
 has_bits-requires c = search short
 
 pub degroup_packed-requires : goal.degroup_packed-requires
-degroup_packed-requires c = few _ _ c.class_or_zero-class.ensures c.if-not-grouping.false
+degroup_packed-requires c = few _ _ c.class_or_zero-class.ensures (ap not c.if-not-grouping.false)
 
 pub returns-then-has_bits : goal.returns-then-has_bits
 returns-then-has_bits c = search inside

@@ -35,7 +35,7 @@ returns-then-scalefactor-ge63 c =
     simp (le-leb 1 x.allocation (search rules), le-leb x.allocation 15 (search rules), le-ltb x.scalefactor 63 (search rules))
 
 pub lfe_sample-requires : goal.lfe_sample-requires
-lfe_sample-requires c = record { le_allocation = (search rules, search rules); scalefactor_bound = search rules; code_bound = search below }
+lfe_sample-requires c = record { allocation = (search rules, search rules); scalefactor_bound = search rules; code_bound = search below }
 
 pub returns-then-has_bits : goal.returns-then-has_bits
 returns-then-has_bits c = search inside

@@ -13,10 +13,10 @@ scale-requires c =
         sourceSmall = λ i h. rw p.tables.sourceAre (sources-small a.s i h);
         baseLong = λ i h. rw p.tables.baseAre (bases-long a.s b p.record_fits.1.0 i h);
         factorListed = p.record_fits.0.listed;
-      }; raw_len = (p.record_fits.0.rawLong, p.record_fits.1.1.0) }
+      }; lengths = (p.record_fits.0.rawLong, p.record_fits.1.1.0) }
 
 pub returns : goal.returns
 returns c =
     let a = c.args in
     let r = recordFrom a.raw.now a.scalefactor.now a.delays a.coefs in
-    let b = baseFrom a.raw_left.now a.raw_right.now a.scaled_left.now a.scaled_right.now in record { work_after = work-finished a.s r b a.history.now c.requires.tables c.scale.ensures.work_after c.predict.ensures; output_after = output-scaled a.s b c.predict.new.1.1.1.1.1.1.0 c.write_output.ensures }
+    let b = baseFrom a.raw_left.now a.raw_right.now a.scaled_left.now a.scaled_right.now in record { work = work-finished a.s r b a.history.now c.requires.tables c.scale.ensures.scaled c.predict.ensures; output = output-scaled a.s b c.predict.new.work c.write_output.ensures }

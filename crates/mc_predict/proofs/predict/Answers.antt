@@ -10,7 +10,7 @@ pub predict_groups-requires : goal.predict_groups-requires
 predict_groups-requires c =
     let s = c in
     let a = s.args in
-    let second = chosen-long (eqb a.s.base_channels 1) 1 a.left.now a.right.now s.requires.left_len.0 s.requires.left_len.1 in record { left_len = (s.requires.left_len.0, ap length c.second_base-second.ensures ∙ second, s.requires.left_len.2); by_index = s.requires.by_index }
+    let second = chosen-long (eqb a.s.base_channels 1) 1 a.left.now a.right.now s.requires.lengths.0 s.requires.lengths.1 in record { lengths = (s.requires.lengths.0, ap length c.second_base-second.ensures ∙ second, s.requires.lengths.2); delays_low = s.requires.delays_low }
 
 pub returns : goal.returns
 returns c = rw (← c.from_header-config.ensures, ← c.pair.ensures, ← c.second_base-second.ensures) c.predict_groups.ensures

@@ -30,14 +30,14 @@ overflow_mul-m c =
 pub overflow_add-m : goal.overflow_add-m
 overflow_add-m c =
     let l = c.loop-k in
-    omega (arith, l.invariant.1.at l.k, l.invariant.1.low l.k c.loop-k-test.true, c.requires.sb_bound.0)
+    omega (arith, l.invariant.1.at l.k, l.invariant.1.low l.k c.loop-k-test.true, c.requires.place.0)
 
 pub predict_column-requires : goal.predict_column-requires
 predict_column-requires c =
     let s = c in
     let l = c.loop-k in
     let h = c.loop-k-test.true in
-    (s.requires.by_index (2 * l.k) (omega arith), s.requires.by_index (2 * l.k + 1) (omega arith), omega (arith, l.invariant.1.at l.k, l.invariant.1.low l.k h, l.invariant.2.long, s.requires.sb_bound.1))
+    (s.requires.delays_low (2 * l.k) (omega arith), s.requires.delays_low (2 * l.k + 1) (omega arith), omega (arith, l.invariant.1.at l.k, l.invariant.1.low l.k h, l.invariant.2.long, s.requires.place.1))
 
 pub loop-k-preserved : goal.loop-k-preserved
 loop-k-preserved c =
@@ -49,7 +49,7 @@ loop-k-preserved c =
       omega arith,
       l.invariant.1,
       rw c.predict_column.ensures
-          (subband-more a.sb (predictedOf a.pair a.mode) a.delays a.coefs a.left.now a.right.now a.work.now m l.invariant.2 c.requires.sb_bound.0 (omega arith) (sym e) (rw e (l.invariant.1.once l.k h)) (rw e (l.invariant.1.low l.k h))),
+          (subband-more a.sb (predictedOf a.pair a.mode) a.delays a.coefs a.left.now a.right.now a.work.now m l.invariant.2 c.requires.place.0 (omega arith) (sym e) (rw e (l.invariant.1.once l.k h)) (rw e (l.invariant.1.low l.k h))),
     )
 
 pub shape_of-work : goal.shape_of-work
@@ -58,4 +58,4 @@ shape_of-work c = c.loop-k.invariant.2.long
 pub returns : goal.returns
 returns c =
     let a = c.args in
-    subband-ends a.sb (predictedOf a.pair a.mode) a.delays a.coefs a.left.now a.right.now a.work.now c.loop-k.invariant.2 (omega arith) c.requires.sb_bound.1
+    subband-ends a.sb (predictedOf a.pair a.mode) a.delays a.coefs a.left.now a.right.now a.work.now c.loop-k.invariant.2 (omega arith) c.requires.place.1

@@ -32,7 +32,7 @@ scale_place-requires c =
     let l = c in
     let p = l.requires in
     let h : placeAt l.loop-i.i < 96 = omega arith in
-    (h, p.0.sourceSmall (placeAt l.loop-i.i) h, p.1.0, p.0.baseLong (placeAt l.loop-i.i) h, l.loop-i.invariant.1.long ∙ (cleared-long _ _ l.clear.ensures ∙ p.1.1))
+    (h, p.places_fit.sourceSmall (placeAt l.loop-i.i) h, p.lengths.0, p.places_fit.baseLong (placeAt l.loop-i.i) h, l.loop-i.invariant.1.long ∙ (cleared-long _ _ l.clear.ensures ∙ p.lengths.1))
 
 pub loop-i-preserved : goal.loop-i-preserved
 loop-i-preserved c =
@@ -52,6 +52,9 @@ returns c =
     let a = s.args in
     let factors = c.factors_of-factors in
     let once =
-    scaling-ends a.steps.now a.source.now a.base.now factors.result a.raw.now a.left.now a.right.now _ _ _ c.loop-i.invariant.1 (omega arith) (cleared-long _ _ c.clear.ensures ∙ s.requires.raw_len.1) in
+    scaling-ends a.steps.now a.source.now a.base.now factors.result a.raw.now a.left.now a.right.now _ _ _ c.loop-i.invariant.1 (omega arith) (cleared-long _ _ c.clear.ensures ∙ s.requires.lengths.1) in
     rw (← factors.ensures)
-    (once, once ∙ one-step a.steps.now a.source.now a.base.now factors.result a.raw.now a.left.now a.right.now a.work.now s.requires.raw_len.1)
+    (record {
+      scaled = once;
+      two_steps = once ∙ one-step a.steps.now a.source.now a.base.now factors.result a.raw.now a.left.now a.right.now a.work.now s.requires.lengths.1;
+    })

@@ -4,7 +4,7 @@ use borrow.Author.Rules.{rules}
 use Rattle.parts.proofs.pack.Goals as goal
 
 pub returns-in-Accepted : goal.returns-in-Accepted
-returns-in-Accepted c = packs-accepted _ c.answer-1.given.0.0 c.answer-1.given.1
+returns-in-Accepted c = packs-accepted _ _ c.in-Accepted.is
 
 pub returns-in-Refused : goal.returns-in-Refused
-returns-in-Refused c = packs-refused _ c.answer-in-Refused-1.given.0.0 _ c.answer-in-Refused-1.given.1 c.pack_refusal.ensures
+returns-in-Refused c = packs-refused _ _ _ c.in-Refused.is c.pack_refusal.ensures

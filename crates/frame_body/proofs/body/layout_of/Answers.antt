@@ -7,10 +7,10 @@ pub returns-in-Accepted : goal.returns-in-Accepted
 returns-in-Accepted c =
     let q = c in
     let a = q.args in
-    layout-accepted q.read_head-found.result a.reading a.head.now a.bits a.base-channels q.read_head-found.ensures.result_value _ c.enum_told-1.given.1 _ c.from_header.ensures _ c.layout.ensures
+    layout-accepted q.read_head-found.result a.reading a.head.now a.bits a.base_channels q.read_head-found.ensures.answer _ c.in-Accepted.is _ c.from_header.ensures _ c.layout.ensures
 
 pub returns-in-Refused : goal.returns-in-Refused
 returns-in-Refused c =
     let q = c in
     let a = q.args in
-    layout-refused q.read_head-found.result a.reading a.head.now a.bits a.base-channels q.read_head-found.ensures.result_value _ c.enum_told-in-Refused-1.given.1
+    layout-refused q.read_head-found.result a.reading a.head.now a.bits a.base_channels q.read_head-found.ensures.answer _ c.in-Refused.is

@@ -1,6 +1,6 @@
 -- `allocations::allocations_fit` meets its contract.
-use mathlib.Core.Path.{◌≡◌}
-use mathlib.Core.Bool.{true}
+use mathlib.Core.Path.{◌≡◌, ap}
+use mathlib.Core.Bool.{true, not}
 use Prim.Native.Nat.{◌-◌, ◌≤◌}
 use native.Mathlib.Omega.{arith}
 use borrow.Author.Rules.{rules}
@@ -17,7 +17,7 @@ pub returns-then-not-allocation_fits : goal.returns-then-not-allocation_fits
 returns-then-not-allocation_fits c =
     let l = c in
     let a = l.args in
-    allocations-refused _ _ l.requires (each_left (allocationAt a.s.nb_steps a.own.now) 96 l.loop-k.k (omega arith) _ c.allocation_fits.ensures c.if-not-allocation_fits.true)
+    allocations-refused _ _ l.requires (each_left (allocationAt a.s.nb_steps a.own.now) 96 l.loop-k.k (omega arith) _ c.allocation_fits.ensures (ap not c.if-not-allocation_fits.true))
 
 pub loop-k-preserved : goal.loop-k-preserved
 loop-k-preserved c = (omega arith, search each_on)

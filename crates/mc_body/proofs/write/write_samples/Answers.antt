@@ -1,17 +1,11 @@
 -- `mc_body::write::write_samples` meets its contract.
 use Rattle.mc_body.specs.WriteLaws.{raw-ready, raw-written, lfe-written}
 use borrow.Author.Rules.{rules}
-use Rattle.mc_body.proofs.write.write_samples.Reads as reads
-use Rattle.mc_body.proofs.write.write_samples.Lts as lts
-use Rattle.mc_samples.proofs.write_lfe.Reads as write-lfe-reads
-use Rattle.mc_samples.proofs.write_raw.Reads as write-raw-reads
 use Rattle.mc_body.proofs.write.write_samples.Goals as goal
 
--- src/write.rt:27:5
 pub write_raw-requires : goal.write_raw-requires
 write_raw-requires c = let q = c in raw-ready q.args.s q.args.p q.requires.2 q.requires.4 q.requires.0
 
--- src/write.rt:21:1
 pub returns : goal.returns
 returns c =
     let q = c in

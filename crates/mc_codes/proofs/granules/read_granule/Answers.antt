@@ -20,7 +20,7 @@ pub overflow_cast-codes : goal.overflow_cast-codes
 overflow_cast-codes c = search (cur-fits, lfe-width, rules)
 
 pub loop-i-init : goal.loop-i-init
-loop-i-init c = (omega arith, c.requires.widths_value.2.most, simp length-set (omega arith), refl)
+loop-i-init c = (omega arith, c.requires.tables.2.most, simp length-set (omega arith), refl)
 
 pub read_samples-cursor-requires : goal.read_samples-cursor-requires
 read_samples-cursor-requires c = (search width-below, omega arith)
@@ -34,7 +34,7 @@ loop-i-preserved c =
       omega arith,
       l.invariant.1,
       elim c.if-own-i-ne0.branch [ then-own-i-ne0 w ↦ search kept-length | else-own-i-ne0 w ↦ search kept-length ],
-      elim c.if-own-i-ne0.branch [ then-own-i-ne0 w ↦ read _ _ w.if-own-i-ne0.true _ s.requires.widths_value.0 _ s.requires.widths_value.1 _ _ w.read_samples.ensures w.cursor-is w.codes-is | else-own-i-ne0 w ↦ skip _ _ w.if-own-i-ne0.false w.cursor-is w.codes-is ],
+      elim c.if-own-i-ne0.branch [ then-own-i-ne0 w ↦ read _ _ w.if-own-i-ne0.true _ s.requires.tables.0 _ s.requires.tables.1 _ _ w.read_samples-cursor.ensures w.codes-is w.cursor-is | else-own-i-ne0 w ↦ skip _ _ w.if-own-i-ne0.false w.codes-is w.cursor-is ],
     )
 
 pub returns : goal.returns

@@ -13,13 +13,13 @@ pub class_at-class-requires : goal.class_at-class-requires
 class_at-class-requires c = search index-small
 
 pub loop-gr-init : goal.loop-gr-init
-loop-gr-init c = (omega arith, c.requires.n_value.2, spread_none _ _ _)
+loop-gr-init c = (omega arith, c.requires.place.2, spread_none _ _ _)
 
 pub three_values-values-requires : goal.three_values-values-requires
 three_values-values-requires c =
     let p = c.requires in
     let a = c.args in
-    values-fit a.n a.granules.now a.i c.loop-gr.gr p.n_value.0 p.place_fits (omega arith) _ (class-found _ _ c.class_index.ensures _ c.class_at-class.ensures)
+    values-fit a.n a.granules.now a.i c.loop-gr.gr p.place.0 p.place_fits (omega arith) _ (class-found _ _ c.class_index.ensures _ c.class_at-class.ensures)
 
 pub bounds-raw-k-in-loop-gr : goal.bounds-raw-k-in-loop-gr
 bounds-raw-k-in-loop-gr c = simp length-set (omega arith)
@@ -33,7 +33,7 @@ loop-gr-preserved c =
     (omega arith, simp length-set c.loop-gr.invariant.1, place-next _ _ _ _ _ found _ c.three_values-values.ensures _ _ _ c.loop-gr.invariant.2)
 
 pub shape_of-raw : goal.shape_of-raw
-shape_of-raw c = c.loop-gr.invariant.1 ∙ sym c.requires.n_value.2
+shape_of-raw c = c.loop-gr.invariant.1 ∙ sym c.requires.place.2
 
 pub returns : goal.returns
 returns c =

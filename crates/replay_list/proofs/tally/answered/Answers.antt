@@ -7,4 +7,4 @@ pub returns-then-n-ge15 : goal.returns-then-n-ge15
 returns-then-n-ge15 c = simp (le-leb 15 c.args.n c.if-n-ge15.true)
 
 pub returns : goal.returns
-returns c = simp (lt-leb 15 c.args.n c.if-n-ge15.false, c.wrapping_add_u64.ensures)
+returns c = simp (lt-leb 15 c.args.n c.if-n-ge15.false, c.wrapping_add_u64.ensures.value)

@@ -10,7 +10,7 @@ pub loop-k-smaller : goal.loop-k-smaller
 loop-k-smaller c = omega (arith, c.loop-k.invariant.filling.long)
 
 pub loop-k-preserved : goal.loop-k-preserved
-loop-k-preserved c = draws _ _ c.loop-k.invariant (omega (arith, c.loop-k.invariant.filling.long)) c.draw-x.ensures c.value_of_lem.ensures
+loop-k-preserved c = draws _ _ c.loop-k.invariant (omega (arith, c.loop-k.invariant.filling.long)) c.draw-x.ensures c.value_of.ensures
 
 pub shape_of-dst : goal.shape_of-dst
 shape_of-dst c = c.loop-k.invariant.filling.long
