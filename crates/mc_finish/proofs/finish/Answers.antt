@@ -11,9 +11,9 @@ scale-requires c =
     let p = c.requires in
     let b = baseFrom a.raw_left.now a.raw_right.now a.scaled_left.now a.scaled_right.now in record { places_fit = record {
         sourceSmall = λ i h. rw p.tables.sourceAre (sources-small a.s i h);
-        baseLong = λ i h. rw p.tables.baseAre (bases-long a.s b p.record_fits.1.0 i h);
-        factorListed = p.record_fits.0.listed;
-      }; lengths = (p.record_fits.0.rawLong, p.record_fits.1.1.0) }
+        baseLong = λ i h. rw p.tables.baseAre (bases-long a.s b p.base_fits i h);
+        factorListed = p.record_fits.listed;
+      }; lengths = (p.record_fits.rawLong, p.lengths.0) }
 
 pub returns : goal.returns
 returns c =

@@ -10,4 +10,4 @@ pub returns : goal.returns
 returns c =
     let q = c in
     let a = q.args in
-    right-room a.reading a.bytes.now a.bits a.base-channels _ q.if-out-ne-HEAD_BYTES.false q.read_head-head.result q.read_head-head.ensures.answer _ c.pack.ensures a.out.now _ c.write_head.ensures
+    right-room a.reading a.bytes.now a.bits a.base_channels _ q.if-out-ne-HEAD_BYTES.false q.read_head-head.result q.read_head-head.ensures.answer _ c.pack.ensures a.out.now _ c.write_head.ensures

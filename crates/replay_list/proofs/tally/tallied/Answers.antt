@@ -4,4 +4,4 @@ use Rattle.std.proofs.Common.{rules}
 use Rattle.replay_list.proofs.tally.tallied.Goals as goal
 
 pub returns : goal.returns
-returns c = rw (c.wrapping_add_u64-differing.ensures, c.wrapping_add_u64-all.ensures, c.wrapping_add_u64-frames.ensures, c.answered-answers.ensures, flag-byte c.args.different)
+returns c = rw (c.wrapping_add_u64-differing.ensures.value, c.wrapping_add_u64-all.ensures.value, c.wrapping_add_u64-frames.ensures.value, c.answered-answers.ensures, flag-byte c.args.different)
