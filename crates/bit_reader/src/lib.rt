@@ -1,5 +1,6 @@
 // Reads fields of at most 16 bits out of a lent string of bits: the read itself, and a reader that holds the string.
 #![tactic(auto)]
+
 ghost use Rattle.std.specs.Prelude.{◌≡◌, ◌≤◌, get_or};
 ghost use Rattle.bit_reader.specs.Answer.{readAt};
 

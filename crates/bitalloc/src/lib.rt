@@ -1,7 +1,8 @@
 // The classes of quantization of Layer II: ISO/IEC 11172-3, Table B.4.
 #![tactic(auto)]
+
 ghost use Rattle.std.specs.Prelude.{◌≡◌, ◌<◌};
-ghost use Rattle.bitalloc.specs.Classes.{class_at, classIndex, lookupOf};
+ghost use Rattle.bitalloc.specs.Classes.{class_at, classIndex, class_of, lookupOf};
 
 // A row of Table B.4, with the number of bits of one sample. The table's samples per codeword are left out: three where
 // they are grouped, else one.
@@ -204,5 +205,22 @@ pub fn class_of_quantization(nb_steps: u32) -> ClassLookup
         ClassLookup::Found(class_at(index))
     } else {
         ClassLookup::Unknown
+    }
+}
+
+// The class that has this number of steps, or a row of zeros.
+pub fn class_or_zero(nb_steps: u32) -> QuantClass
+    ensures { result ≡ class_of nb_steps }
+{
+    match class_of_quantization(nb_steps) {
+        ClassLookup::Found(class) => class,
+        ClassLookup::Unknown => QuantClass {
+            nb_steps: 0,
+            c: 0.0,
+            d: 0.0,
+            grouping: false,
+            bits_per_sample: 0,
+            bits_per_codeword: 0,
+        },
     }
 }

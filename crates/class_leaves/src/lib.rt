@@ -1,28 +1,12 @@
 // The columns of a class for other languages. Each function takes any number of steps: of one that is no class's, it
 // answers 0, and a float answer is +0.
 #![tactic(auto)]
+
 ghost use Rattle.std.specs.Prelude.{◌≡◌};
-ghost use Rattle.bitalloc.specs.Classes.{class_of, cOf, dOf, bitsPerSample, bitsPerCodeword};
+ghost use Rattle.bitalloc.specs.Classes.{cOf, dOf, bitsPerSample, bitsPerCodeword};
 ghost use Rattle.class_leaves.specs.Grouping.{groupingLeaf};
 
-use bitalloc::{ClassLookup, QuantClass};
-
-// The class that has this number of steps, or a row of zeros.
-pub fn class_or_zero(nb_steps: u32) -> QuantClass
-    ensures { result ≡ class_of nb_steps }
-{
-    match bitalloc::class_of_quantization(nb_steps) {
-        ClassLookup::Found(class) => class,
-        ClassLookup::Unknown => QuantClass {
-            nb_steps: 0,
-            c: 0.0,
-            d: 0.0,
-            grouping: false,
-            bits_per_sample: 0,
-            bits_per_codeword: 0,
-        },
-    }
-}
+use bitalloc::class_or_zero;
 
 #[unsafe(no_mangle)]
 pub extern "C" fn mc_leaf_class_bits_per_sample(nb_steps: u32) -> u32

@@ -1,5 +1,6 @@
 // A cursor in a lent string of bits, which keeps its first refusal: one read, and a test.
 #![tactic(auto)]
+
 ghost use Rattle.std.specs.Prelude.{◌≡◌, ◌≤◌};
 ghost use Rattle.cursor.specs.Cursor.{step, refuseIf};
 

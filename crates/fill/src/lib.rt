@@ -1,5 +1,6 @@
 // A loop that fills a buffer, and in specs/ the laws of such loops.
 #![tactic(auto)]
+
 ghost use Rattle.std.specs.Prelude.{◌≡◌, ℕ, length};
 ghost use Rattle.floats.specs.Binary64.{zero64};
 ghost use Rattle.fill.specs.Tab.{tab};

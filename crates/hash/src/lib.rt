@@ -1,5 +1,6 @@
 // A hash over the bytes of numbers and floats.
 #![tactic(auto)]
+
 ghost use Rattle.std.specs.Prelude.{◌≡◌, ◌*◌, ◌%◌};
 ghost use Rattle.encoding.specs.Encoding.{hashByte, hashNumber, hashFloats};
 

@@ -1,11 +1,12 @@
 // The scalefactors and the requantizer for other languages. Each function takes any input: where an argument
 // is outside its range, it answers 0, and a float answer is +0.
 #![tactic(auto)]
+
 ghost use Rattle.std.specs.Prelude.{◌≡◌, ◌<◌, ◌≤◌, ◌^◌, ltb};
 ghost use Rattle.requant.specs.Requant.{degrouped};
 ghost use Rattle.leaves.specs.Leaves.{scalefactorLeaf, requantizeLeaf, packed, degroupLeaf, lfeLeaf, coefficientLeaf};
 
-use class_leaves::class_or_zero;
+use bitalloc::class_or_zero;
 
 #[unsafe(no_mangle)]
 pub extern "C" fn mc_leaf_scalefactor(index: u32) -> f64

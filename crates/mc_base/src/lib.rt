@@ -1,5 +1,6 @@
 // One of the two lent base channels.
 #![tactic(auto)]
+
 ghost use Rattle.std.specs.Prelude.{◌≡◌, cond, eqb};
 ghost use Rattle.mc_base.specs.Base.{chosen};
 

@@ -1,5 +1,6 @@
 // Dematrixing (ISO/IEC 13818-3, 2.5.3.2.1.1) and inverse weighting (2.5.3.2.5), by configuration, procedure and tc_allocation.
 #![tactic(auto)]
+
 ghost use Rattle.std.specs.Prelude.{◌≡◌, cond, eqb};
 ghost use Rattle.mc_dematrix.specs.Dematrix.{root2, two, denorm, weighted32, phased32, weighted31, phased31, weighted1, weighted22, unweighted, passed, dematrixed};
 

@@ -1,5 +1,6 @@
 // Why a frame is refused, by the Rust's names.
 #![tactic(auto)]
+
 ghost use Rattle.std.specs.Prelude.{◌≡◌};
 ghost use Rattle.mc_error.specs.Error.{refusalOf};
 

@@ -1,5 +1,6 @@
 // Reads mc_header() (ISO/IEC 13818-3, 2.5.1.13), and tests what a string may be lent as. The definition of the whole head stands in specs/.
 #![tactic(auto)]
+
 ghost use Rattle.std.specs.Prelude.{◌≡◌};
 ghost use Rattle.mc_fields.specs.Lent.{stringFits, baseFits};
 

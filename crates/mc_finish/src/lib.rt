@@ -1,5 +1,6 @@
 // From the record to dematrixed subbands (ISO/IEC 13818-3, 2.5.3.2): scaling, prediction, dematrixing and output.
 #![tactic(auto)]
+
 ghost use Rattle.std.specs.Prelude.{◌≡◌, length};
 ghost use Rattle.mc_output.specs.Output.{workOf, outputOf};
 ghost use Rattle.mc_base.specs.Base.{baseFrom};

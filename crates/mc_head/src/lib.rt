@@ -1,5 +1,6 @@
 // Reads a head string: mc_header(), the check word, and mc_composite_status_info() (ISO/IEC 13818-3, 2.5.1.13 to 2.5.1.15).
 #![tactic(auto)]
+
 ghost use Rattle.std.specs.Prelude.{◌≡◌, ◌⊎◌};
 ghost use Rattle.cursor.specs.Cursor.{run_from};
 ghost use Rattle.bits.specs.Syntax.{plain, run};

@@ -1,5 +1,6 @@
 // The history that the next frame predicts from (ISO/IEC 13818-3, 2.5.3.2.1.3).
 #![tactic(auto)]
+
 ghost use Rattle.std.specs.Prelude.{◌≡◌, cond, ◌+◌, ◌<◌, ◌≤◌, eqb, length};
 ghost use Rattle.mc_scale.specs.Code.Strided.{strided};
 ghost use Rattle.mc_base.specs.Base.{scaledBase};

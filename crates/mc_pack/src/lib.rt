@@ -1,5 +1,6 @@
 // The frame call's answer as one number, and a fresh state, a carried or a converted one in place of another: what the functions for C commit.
 #![tactic(auto)]
+
 ghost use Rattle.std.specs.Prelude.{◌≡◌};
 ghost use Rattle.mc_base.specs.Base.{baseFrom};
 ghost use Rattle.mc_state.specs.Answer.{lent_of, buffersFrom, outcomeOf, packed, packedBy, packedOf, carryNumber, carryingBy};

@@ -1,6 +1,7 @@
 // What a payload is read under, and the subband limits. The definition of the payload (ISO/IEC 13818-3, 2.5.1.17), demand 3 and the longest
 // payload stand in specs/.
 #![tactic(auto)]
+
 ghost use Rattle.std.specs.Prelude.{◌≡◌};
 ghost use Rattle.mc_payload.specs.Places.{msblimit};
 

@@ -1,5 +1,6 @@
 // Multichannel prediction (ISO/IEC 13818-3, 2.5.3.2.1.3): from both base channels, in subbands 0 to 7.
 #![tactic(auto)]
+
 ghost use Rattle.std.specs.Prelude.{◌≡◌, cond, [], ℕ, ◌+◌, ◌*◌, ◌<◌, ◌≤◌, eqb, length, get_or};
 ghost use Rattle.std.specs.Float.{nan};
 ghost use Rattle.floats.specs.Binary64.{◌⊕◌};

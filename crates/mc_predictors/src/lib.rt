@@ -1,5 +1,6 @@
 // Predictors (ISO/IEC 13818-3, 2.5.2.15 and 2.5.3.2.1.3): how many there are under a crosstalk code, and to which channels they belong.
 #![tactic(auto)]
+
 ghost use Rattle.std.specs.Prelude.{◌≡◌, [], get_or};
 ghost use Rattle.mc_crosstalk.specs.Crosstalk.{predictorsOf};
 ghost use Rattle.mc_config.specs.Records.{padded};

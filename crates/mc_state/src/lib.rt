@@ -1,6 +1,7 @@
 // What a frame call keeps and answers. The definition of the call stands in specs/Frame.antt, demand 1 in specs/Demand1.antt, sequences of calls in
 // specs/Reel.antt.
 #![tactic(auto)]
+
 use mc_error::McError;
 
 mod carry;

@@ -1,5 +1,6 @@
 // What an unpacked record leaves in lent buffers, and its answer as one number.
 #![tactic(auto)]
+
 ghost use Rattle.std.specs.Prelude.{◌≡◌};
 ghost use Rattle.mc_error.specs.Error.{refusalOf};
 ghost use Rattle.part_tables.specs.Parts.{packedRefusal};

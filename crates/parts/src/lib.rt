@@ -1,5 +1,6 @@
 // Reading a head, and unpacking a payload under it, for other languages. The functions take any input.
 #![tactic(auto)]
+
 ghost use Rattle.std.specs.Prelude.{◌≡◌, ◌<◌, length};
 ghost use Rattle.fill.specs.Tab.{tab};
 ghost use Rattle.mc_head.specs.Answer.{outcomeOf};

@@ -1,5 +1,6 @@
 // From codes to values: ISO/IEC 11172-3, 2.4.3.3.4; ISO/IEC 13818-3, 2.5.3.2.4 and 2.5.3.2.1.3.
 #![tactic(auto)]
+
 ghost use Rattle.std.specs.Prelude.{◌≡◌, ◌<◌, ◌≤◌, ◌^◌, ◌+◌};
 ghost use Rattle.requant.specs.Requant.{fraction, requantized, degrouped, lfeOf, lfeSampleOf, coefficientOf};
 

@@ -1,5 +1,6 @@
 // The scalefactors of Layers I and II: ISO/IEC 11172-3, Table B.1.
 #![tactic(auto)]
+
 ghost use Rattle.std.specs.Prelude.{◌≡◌, ◌<◌};
 ghost use Rattle.tables.specs.Scalefactor.{scalefactors, scalefactorOf};
 

@@ -1,5 +1,6 @@
 // Three reads at once, out of one window of eight bytes.
 #![tactic(auto)]
+
 ghost use Rattle.std.specs.Prelude.{◌≡◌, true, ◌+◌, ◌-◌, ◌*◌, ◌/◌, ◌%◌, ◌^◌, ◌≤◌, length};
 ghost use Rattle.bits.specs.Bits.{value_at};
 ghost use Rattle.window.specs.Three.{Wide, threeSteps};

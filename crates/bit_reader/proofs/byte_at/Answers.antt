@@ -9,7 +9,7 @@ pub overflow_cast-result : goal.overflow_cast-result
 overflow_cast-result c = omega (arith, c.shared_slice_known-1.given c.args.i)
 
 pub returns-then-i-bytes : goal.returns-then-i-bytes
-returns-then-i-bytes c =  record { value = search rules; upper_bound = omega (arith, c.shared_slice_known-1.given c.args.i) }
+returns-then-i-bytes c = record { value = search rules; upper_bound = omega (arith, c.shared_slice_known-1.given c.args.i) }
 
 pub returns-else-i-bytes : goal.returns-else-i-bytes
-returns-else-i-bytes c =  record { value = sym (get_or-eq_default c.args.bytes.now 0 c.if-i-bytes.false); upper_bound = search rules }
+returns-else-i-bytes c = record { value = sym (get_or-eq_default c.args.bytes.now 0 c.if-i-bytes.false); upper_bound = search rules }

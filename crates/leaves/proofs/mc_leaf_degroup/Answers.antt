@@ -51,7 +51,7 @@ pub has_bits-requires : goal.has_bits-requires
 has_bits-requires c = search short
 
 pub degroup_packed-requires : goal.degroup_packed-requires
-degroup_packed-requires c = few _ _ c.class_or_zero-class.ensures (ap not c.if-not-grouping.false)
+degroup_packed-requires c = few _ _ c.class_or_zero-class.ensures c.if-not-grouping.false
 
 pub returns-then-has_bits : goal.returns-then-has_bits
 returns-then-has_bits c = search inside

@@ -56,7 +56,7 @@ pub has_bits-requires : goal.has_bits-requires
 has_bits-requires c = search most
 
 pub requantize_code-requires : goal.requantize_code-requires
-requantize_code-requires c =  record { bound = (search some, search most); code_bound = search below }
+requantize_code-requires c = record { width = (search some, search most); code_bound = search below }
 
 pub returns-then-has_bits : goal.returns-then-has_bits
 returns-then-has_bits c = search inside

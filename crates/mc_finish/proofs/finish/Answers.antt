@@ -9,11 +9,14 @@ pub scale-requires : goal.scale-requires
 scale-requires c =
     let a = c.args in
     let p = c.requires in
-    let b = baseFrom a.raw_left.now a.raw_right.now a.scaled_left.now a.scaled_right.now in record { places_fit = record {
+    let b = baseFrom a.raw_left.now a.raw_right.now a.scaled_left.now a.scaled_right.now in record {
+      places_fit = record {
         sourceSmall = λ i h. rw p.tables.sourceAre (sources-small a.s i h);
         baseLong = λ i h. rw p.tables.baseAre (bases-long a.s b p.base_fits i h);
         factorListed = p.record_fits.listed;
-      }; lengths = (p.record_fits.rawLong, p.lengths.0) }
+      };
+      lengths = (p.record_fits.rawLong, p.lengths.0);
+    }
 
 pub returns : goal.returns
 returns c =

@@ -21,8 +21,11 @@ loop-sb-preserved c =
     let a = c.args in
     let l = c.loop-sb in (
       omega arith,
-      elim c.if-flags-sb-eq1.branch [ then-flags-sb-eq1 w ↦ rw (w.work-is, w.predict_subband.ensures, w.line_of-line_left.ensures, w.line_of-line_right.ensures)
-          (group-predicted a.pair a.flags.now a.modes.now a.delays a.coefs a.left.now a.right.now a.history.now a.work.now l.invariant.1 (omega arith) c.requires.lengths.2 w.if-flags-sb-eq1.true) | else-flags-sb-eq1 w ↦ rw w.work-is (group-passed a.pair a.flags.now a.modes.now a.delays a.coefs a.left.now a.right.now a.history.now a.work.now l.invariant.1 w.if-flags-sb-eq1.false) ],
+      elim c.if-flags-sb-eq1.branch [
+        | then-flags-sb-eq1 w ↦ rw (w.work-is, w.predict_subband.ensures, w.line_of-line_left.ensures, w.line_of-line_right.ensures)
+            (group-predicted a.pair a.flags.now a.modes.now a.delays a.coefs a.left.now a.right.now a.history.now a.work.now l.invariant.1 (omega arith) c.requires.lengths.2 w.if-flags-sb-eq1.true)
+        | else-flags-sb-eq1 w ↦ rw w.work-is (group-passed a.pair a.flags.now a.modes.now a.delays a.coefs a.left.now a.right.now a.history.now a.work.now l.invariant.1 w.if-flags-sb-eq1.false)
+      ],
     )
 
 pub shape_of-work : goal.shape_of-work

@@ -5,6 +5,9 @@ use native.Mathlib.Omega.{arith}
 use borrow.Author.Rules.{rules}
 use Rattle.frame_body.proofs.body.decode_parts.Goals as goal
 
+pub slice_bounds-frame-end-3 : goal.slice_bounds-frame-end-3
+slice_bounds-frame-end-3 c = let r = right_of c.args.n c.requires.whole.right in omega (arith, r.one, r.two, c.requires.valuesLong)
+
 pub slice_bounds-frame-count-4 : goal.slice_bounds-frame-count-4
 slice_bounds-frame-count-4 c = let r = right_of c.args.n c.requires.whole.right in omega (arith, r.one, r.two, c.requires.valuesLong)
 

@@ -20,6 +20,6 @@ returns c =
     let p = c.pair_of.ensures in
     let f = c.front_of-front.ensures in
     elim c.if-h-eq3.branch [
-      then-h-eq3 j ↦ rw (w.0, w.1, w.2, p, f, j.surround-is, j.second_channels-is, j.if-h-eq3.true) |
-      else-h-eq3 j ↦ rw (w.0, w.1, w.2, p, f, j.surround-is, j.second_channels-is, ne_eqb _ 3 j.if-h-eq3.false)
+      | then-h-eq3 j ↦ rw (w.0, w.1, w.2, p, f, j.surround-is, j.second_channels-is, j.if-h-eq3.true)
+      | else-h-eq3 j ↦ rw (w.0, w.1, w.2, p, f, j.surround-is, j.second_channels-is, ne_eqb _ 3 j.if-h-eq3.false)
     ]

@@ -1,4 +1,4 @@
--- `class_leaves::class_or_zero` meets its contract: each arm answers what `lookupOf` says of the class.
+-- `bitalloc::class_or_zero` meets its contract: each arm answers what `lookupOf` says of the class.
 use mathlib.Core.Path.{◌≡◌, sym}
 use mathlib.Core.Bool.{Bool, true, false, not, cond}
 use Prim.Native.Nat.{ℕ}
@@ -11,7 +11,7 @@ use Rattle.bitalloc.specs.declared.ClassLookup.{ClassLookup}
 use Rattle.bitalloc.specs.declared.ClassLookup.TheVariants.{Found, Unknown}
 use Rattle.bitalloc.specs.Classes.{row, isClass, class_of, lookupOf}
 use Rattle.bitalloc.specs.Places.{class-none}
-use Rattle.class_leaves.proofs.class_or_zero.Goals as goal
+use Rattle.bitalloc.proofs.class_or_zero.Goals as goal
 
 found : (l : ClassLookup) (class : QuantClass) (steps : ℕ) → l ≡ lookupOf steps → l ≡ Found class → class ≡ class_of steps
 found l class steps e f = go (isClass steps) e
