@@ -7,7 +7,7 @@ use native.Mathlib.Omega.{arith}
 use lib.Dec.{ltb}
 use lib.ListN.{set}
 use borrow.Author.Tests.{eq-eqb, ne_eqb}
-use Rattle.bits.specs.Syntax.{Outcome, field, times}
+use Rattle.bits.specs.Syntax.{Outcome, times}
 use Rattle.cursor.specs.Cursor.{step, run_from}
 use Rattle.cursor.specs.CursorLaws.{advance, loop-next, times-over}
 use Rattle.cursor.specs.Ran.{Ran}

@@ -5,7 +5,6 @@ use Prim.Native.Nat.{ℕ}
 use native.Mathlib.Omega.{arith}
 use lib.Dec.{T}
 use lib.Ieee.{round, of_bits}
-use borrow.Author.Rules.{rules}
 use Rattle.bitalloc.specs.declared.QuantClass.{QuantClass}
 use Rattle.bitalloc.specs.declared.ClassLookup.{ClassLookup}
 use Rattle.bitalloc.specs.declared.ClassLookup.TheVariants.{Found, Unknown}

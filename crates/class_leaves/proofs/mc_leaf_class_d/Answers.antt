@@ -1,6 +1,5 @@
 -- `class_leaves::mc_leaf_class_d` meets its contract.
 use mathlib.Core.Path.{ap}
-use borrow.Author.Rules.{rules}
 use Rattle.bitalloc.specs.declared.QuantClass.{QuantClass}
 use Rattle.class_leaves.proofs.mc_leaf_class_d.Goals as goal
 

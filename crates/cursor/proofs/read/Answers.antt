@@ -1,5 +1,4 @@
 -- `cursor::read` meets its contract.
-use borrow.Author.Rules.{rules}
 use Rattle.cursor.proofs.Steps.{read-refused, read-value, read_short}
 use Rattle.cursor.proofs.read.Goals as goal
 

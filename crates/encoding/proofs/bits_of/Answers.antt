@@ -1,5 +1,4 @@
 -- `encoding::bits_of` meets its contract.
-use borrow.Author.Rules.{rules}
 use Rattle.encoding.specs.EncodingLaws.{nan-bits, no_nan}
 use Rattle.encoding.proofs.bits_of.Goals as goal
 

@@ -1,5 +1,4 @@
 -- `encoding::float_of` meets its contract.
-use borrow.Author.Rules.{rules}
 use Rattle.encoding.specs.EncodingLaws.{nan_pattern, no-nan-pattern}
 use Rattle.encoding.proofs.float_of.Goals as goal
 

@@ -1,7 +1,6 @@
 -- `encoding::number_at` meets its contract. The loop reads the last byte first.
 use native.Mathlib.Omega.{arith}
-use borrow.Author.Rules.{rules}
-use Rattle.encoding.specs.EncodingLaws.{ReadFrom, read-starts, read_more, read_fits, read-ends}
+use Rattle.encoding.specs.EncodingLaws.{read-starts, read_more, read_fits, read-ends}
 use mathlib.Core.Path.{refl, ◌∙◌, ap}
 use Prim.Native.Nat.{ℕ}
 use Rattle.encoding.specs.Encoding.{lowestFirst}

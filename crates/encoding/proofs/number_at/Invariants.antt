@@ -1,10 +1,5 @@
 -- `encoding::number_at` meets its contract. The loop reads the last byte first.
-use native.Mathlib.Omega.{arith}
-use borrow.Author.Rules.{rules}
-use Rattle.encoding.specs.EncodingLaws.{ReadFrom, read-starts, read_more, read_fits, read-ends}
-use mathlib.Core.Path.{refl, ◌∙◌, ap}
-use Prim.Native.Nat.{ℕ}
-use Rattle.encoding.specs.Encoding.{lowestFirst}
+use Rattle.encoding.specs.EncodingLaws.{ReadFrom}
 use Rattle.encoding.proofs.number_at.Given as goal
 
 abbrev pub invariant-loop-k : goal.invariant-loop-k

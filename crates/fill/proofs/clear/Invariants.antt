@@ -1,9 +1,7 @@
 -- `clear` meets its contract.
-use mathlib.Core.Path.{refl}
 use Prim.Native.Nat.{ℕ, ◌-◌}
-use native.Mathlib.Omega.{arith}
 use lib.ListN.{length}
-use Rattle.fill.specs.InOrder.{Filling, starts, more, ends-all}
+use Rattle.fill.specs.InOrder.{Filling}
 use Rattle.floats.specs.Binary64.{zero64}
 use Rattle.fill.proofs.clear.Given as goal
 

@@ -1,5 +1,5 @@
 -- `encoding::hash_floats` meets its contract. The hash of the floats that are left stays the same.
-use Rattle.std.proofs.Common.{◌≡◌, ℕ, ◌+◌, ◌-◌, length, drop, sym, refl, ap, ◌∙◌, arith, rules}
+use Rattle.std.proofs.Common.{ℕ, ◌+◌, drop, sym, ap, ◌∙◌}
 use Rattle.encoding.specs.Encoding.{hashFloats, hashNumber}
 use Rattle.encoding.specs.EncodingLaws.{floats-more, floats-none}
 use Rattle.hash.proofs.hash_floats.Goals as goal

@@ -1,7 +1,6 @@
 -- `encoding::hash_floats` meets its contract. The hash of the floats that are left stays the same.
-use Rattle.std.proofs.Common.{◌≡◌, ℕ, ◌+◌, ◌-◌, length, drop, sym, refl, ap, ◌∙◌, arith, rules}
-use Rattle.encoding.specs.Encoding.{hashFloats, hashNumber}
-use Rattle.encoding.specs.EncodingLaws.{floats-more, floats-none}
+use Rattle.std.proofs.Common.{◌≡◌, ◌-◌, length, drop}
+use Rattle.encoding.specs.Encoding.{hashFloats}
 use Rattle.hash.proofs.hash_floats.Given as goal
 
 abbrev pub invariant-loop-i : goal.invariant-loop-i

@@ -1,5 +1,5 @@
 -- `encoding::hash_number` meets its contract. The hash of the bytes that are left stays the same.
-use Rattle.std.proofs.Common.{◌≡◌, ℕ, ◌-◌, ◌/◌, sym, refl, ap, ◌∙◌, arith, rules}
+use Rattle.std.proofs.Common.{ℕ, ◌-◌, ◌/◌, sym, ap, ◌∙◌}
 use Rattle.encoding.specs.Encoding.{hashBytes}
 use Rattle.encoding.specs.EncodingLaws.{hash-more, hash-none}
 use Rattle.hash.proofs.hash_number.Goals as goal

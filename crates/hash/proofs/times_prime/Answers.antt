@@ -1,5 +1,5 @@
 -- `encoding::times_prime` meets its contract.
-use Rattle.std.proofs.Common.{ℕ, ◌+◌, ◌*◌, ◌%◌, ap, ◌∙◌, rules}
+use Rattle.std.proofs.Common.{ℕ, ◌+◌, ◌*◌, ◌%◌, ap, ◌∙◌}
 use Rattle.encoding.specs.EncodingLaws.{product}
 use Rattle.hash.proofs.times_prime.Goals as goal
 

@@ -2,7 +2,6 @@
 use mathlib.Core.Path.{ap}
 use native.Mathlib.Omega.{arith}
 use lib.Dec.{ltb}
-use borrow.Author.Rules.{rules}
 use Rattle.requant.proofs.Machine.{one_bit}
 use Rattle.leaves.proofs.has_bits.Goals as goal
 

@@ -1,11 +1,9 @@
 -- `leaves::mc_leaf_degroup` meets its contract: each return answers what `degroupLeaf` picks by the tests that led there.
-use mathlib.Core.Bool.{not}
 use mathlib.Core.Path.{◌≡◌, sym, ap, ◌∙◌, subst}
 use mathlib.Core.Bool.{Bool, true, false}
 use Prim.Native.Nat.{ℕ, ◌^◌, ◌≤◌, ◌<◌}
 use native.Mathlib.Omega.{arith}
 use lib.Dec.{T, ltb}
-use borrow.Author.Rules.{rules}
 use Rattle.bitalloc.specs.declared.QuantClass.{QuantClass}
 use Rattle.bitalloc.specs.Classes.{isClass, class_of, grouped, bitsPerCodeword}
 use Rattle.bitalloc.specs.Places.{class-steps, class-grouped}

@@ -1,6 +1,5 @@
 -- `mc_base::second_base` meets its contract.
 use borrow.Author.Tests.{eq-eqb, ne_eqb}
-use borrow.Author.Rules.{rules}
 use Rattle.mc_base.proofs.second_base.Goals as goal
 
 pub returns-then-base_channels-eq1 : goal.returns-then-base_channels-eq1

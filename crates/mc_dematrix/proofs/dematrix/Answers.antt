@@ -1,5 +1,4 @@
 -- `mc_dematrix::dematrix` meets its contract: one case for each configuration.
-use borrow.Author.Rules.{rules}
 use borrow.Author.Tests.{ne_eqb}
 use Rattle.mc_config.specs.CaseLaws.{other, byPair-other}
 use Rattle.mc_dematrix.specs.Dematrix.{dematrixed, weighted, unweighted}

@@ -1,5 +1,4 @@
 -- `mc_dematrix::dematrix_31` meets its contract.
-use borrow.Author.Rules.{rules}
 use borrow.Author.Tests.{eq-eqb, ne_eqb}
 use Rattle.mc_dematrix.proofs.dematrix_31.Goals as goal
 

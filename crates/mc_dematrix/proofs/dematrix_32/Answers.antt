@@ -1,5 +1,4 @@
 -- `mc_dematrix::dematrix_32` meets its contract.
-use borrow.Author.Rules.{rules}
 use borrow.Author.Tests.{eq-eqb, ne_eqb}
 use Rattle.mc_dematrix.proofs.dematrix_32.Goals as goal
 

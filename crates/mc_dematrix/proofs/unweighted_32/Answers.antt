@@ -1,5 +1,4 @@
 -- `mc_dematrix::unweighted_32` meets its contract.
-use borrow.Author.Rules.{rules}
 use Rattle.mc_dematrix.specs.Dematrix.{unweighted}
 use Rattle.mc_dematrix.proofs.unweighted_32.Goals as goal
 

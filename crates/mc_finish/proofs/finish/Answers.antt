@@ -2,7 +2,6 @@
 use Rattle.mc_base.specs.Base.{baseFrom}
 use Rattle.mc_finish.specs.Finish.{recordFrom}
 use Rattle.mc_finish.specs.Laws.Finish.{sources-small, bases-long, output-scaled, work-finished}
-use borrow.Author.Rules.{rules}
 use Rattle.mc_finish.proofs.finish.Goals as goal
 
 pub scale-requires : goal.scale-requires

@@ -1,5 +1,4 @@
 -- `mc_head::head_fits` meets its contract.
-use borrow.Author.Rules.{rules}
 use Rattle.mc_fields.specs.Lent.{headFits}
 use Rattle.mc_head.proofs.head_fits.Goals as goal
 

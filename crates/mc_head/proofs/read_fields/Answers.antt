@@ -1,5 +1,4 @@
 -- `mc_head::read_fields` meets its contract.
-use borrow.Author.Rules.{rules}
 use lib.Dec.{lit≤}
 use Rattle.cursor.specs.CursorLaws.{cur-fits}
 use Rattle.mc_head.proofs.HeadWalk.{widths-fit, fields_read}

@@ -1,7 +1,6 @@
 -- `mc_head::read_head` meets its contract.
 use mathlib.Core.Path.{ap}
 use mathlib.Core.Bool.{not}
-use borrow.Author.Rules.{rules}
 use Rattle.mc_head.proofs.HeadWalk.{wrong-loan, kept, stopped, forbidden, all_listed}
 use Rattle.mc_head.proofs.read_head.Goals as goal
 

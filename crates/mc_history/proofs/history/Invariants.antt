@@ -1,17 +1,10 @@
 -- `history` meets its contract. The loop writes a line of nine a turn.
-use mathlib.Core.Path.{◌≡◌, ◌∙◌, ap, refl}
+use mathlib.Core.Path.{◌≡◌}
 use Prim.Native.Nat.{ℕ, ◌-◌, ◌/◌, ◌≤◌}
-use lib.Dec.{eqb}
 use lib.Ieee.{nan}
 use lib.ListN.{length}
-use borrow.Author.Rules.{rules}
-use Rattle.fill.specs.ByTurn.{ByTurn, turn-starts}
-use Rattle.mc_base.specs.Base.{scaledBase}
-use Rattle.mc_predict.specs.Laws.Chosen.{chosen-long}
+use Rattle.fill.specs.ByTurn.{ByTurn}
 use Rattle.mc_history.specs.HistoryBy.{historyBy}
-use Rattle.mc_history.specs.HistoryLaws.{turn-line, line-long, lines_end, history-kept}
-use Rattle.mc_scale.specs.Laws.Strided.{length-strided}
-use native.Mathlib.Omega.{arith}
 use Rattle.mc_history.proofs.history.Given as goal
 
 abbrev pub invariant-loop-line : goal.invariant-loop-line

@@ -1,6 +1,5 @@
 -- `mc_pack::converted` meets its contract.
 use Rattle.mc_state.specs.CarryLaws.{carrying-number}
-use borrow.Author.Rules.{rules}
 use Rattle.mc_pack.proofs.converted.Goals as goal
 
 pub returns : goal.returns

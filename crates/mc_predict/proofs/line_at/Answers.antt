@@ -1,6 +1,5 @@
 -- `mc_predict::line_at` meets its contract.
 use borrow.Author.Tests.{lt-ltb, le-ltb}
-use borrow.Author.Rules.{rules}
 use Rattle.mc_predict.proofs.line_at.Goals as goal
 
 pub returns-then-t-lt9 : goal.returns-then-t-lt9

@@ -3,7 +3,6 @@ use mathlib.Core.Path.{ap, ◌∙◌}
 use lib.Dec.{eqb}
 use lib.ListN.{length}
 use Rattle.mc_predict.specs.Laws.Chosen.{chosen-long}
-use borrow.Author.Rules.{rules}
 use Rattle.mc_predict.proofs.predict.Goals as goal
 
 pub predict_groups-requires : goal.predict_groups-requires

@@ -1,13 +1,10 @@
 -- `mc_predict::predict_column` meets its contract. The loop writes the slots of one column, and a slot that it has not come to is as it was.
-use mathlib.Core.Path.{◌∙◌}
-use borrow.Author.Rules.{rules}
 use Prim.Native.Nat.{ℕ, ◌+◌, ◌*◌, ◌-◌}
 use lib.Ieee.{nan}
 use lib.ListN.{get_or}
 use Rattle.floats.specs.Binary64.{◌⊕◌}
 use Rattle.mc_predict.specs.Code.PredictByLine.{pairSum}
-use Rattle.mc_scale.specs.Laws.Strided.{Striding, stride-starts, stride-more, stride-ends, stride-left}
-use native.Mathlib.Omega.{arith}
+use Rattle.mc_scale.specs.Laws.Strided.{Striding}
 use Rattle.mc_predict.proofs.predict_column.Given as goal
 
 abbrev pub invariant-loop-slot : goal.invariant-loop-slot

@@ -1,14 +1,11 @@
 -- `mc_predict::predict_subband` meets its contract. The loop takes one predicted channel a turn.
 use mathlib.Core.Path.{sym}
-use Prim.Native.Nat.{◌+◌, ◌*◌, ◌-◌, ◌≤◌}
-use lib.Ieee.{nan}
+use Prim.Native.Nat.{◌+◌, ◌*◌, ◌-◌}
 use lib.ListN.{get_or}
-use borrow.Author.Rules.{rules}
-use Rattle.fill.specs.ByTurn.{ByTurn, turn-starts}
+use Rattle.fill.specs.ByTurn.{turn-starts}
 use Rattle.mc_crosstalk.specs.Crosstalk.{predictedOf}
-use Rattle.mc_predict.specs.Code.PredictByLine.{subbandAt}
-use Rattle.mc_predict.specs.Laws.PlaceIn.{Listed, predicted-listed}
-use Rattle.mc_predict.specs.Laws.Subband.{turnIn, subband-more, subband-ends}
+use Rattle.mc_predict.specs.Laws.PlaceIn.{predicted-listed}
+use Rattle.mc_predict.specs.Laws.Subband.{subband-more, subband-ends}
 use native.Mathlib.Omega.{arith}
 use Rattle.mc_predict.proofs.predict_subband.Goals as goal
 

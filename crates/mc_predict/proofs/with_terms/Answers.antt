@@ -1,6 +1,5 @@
 -- `mc_predict::with_terms` meets its contract.
 use Rattle.mc_predict.specs.Code.PredictByLine.{termsOf}
-use borrow.Author.Rules.{rules}
 use Rattle.mc_predict.proofs.with_terms.Goals as goal
 
 pub returns : goal.returns

@@ -1,7 +1,6 @@
 -- `predictors::channels_in` meets its contract.
 use mathlib.Core.Path.{refl, sym}
 use mathlib.Core.List.{[]}
-use borrow.Author.Rules.{rules}
 use lib.ListN.{get_or-eq_default}
 use Rattle.mc_config.specs.Records.{padded}
 use Rattle.mc_config.specs.TableLaws.{get_d_default}

@@ -1,7 +1,6 @@
 -- `predictors::entry` meets its contract.
 use mathlib.Core.Path.{sym}
 use lib.ListN.{get_or-eq_default}
-use borrow.Author.Rules.{rules}
 use Rattle.mc_predictors.proofs.entry.Goals as goal
 
 pub returns-else-code-table : goal.returns-else-code-table

@@ -5,7 +5,6 @@ use Rattle.mc_crosstalk.specs.CrosstalkLaws.{predictors-other}
 use Rattle.mc_crosstalk.specs.Predictors.{npredTable, npred1, npred2, npred3}
 use Rattle.mc_crosstalk.specs.PredictorsLaws.{npred-agrees}
 use Rattle.mc_config.specs.CaseLaws.{rest-other}
-use borrow.Author.Rules.{rules}
 use Rattle.mc_predictors.proofs.npred_for.Goals as goal
 
 pub returns-in-32 : goal.returns-in-32

@@ -4,7 +4,6 @@ use mathlib.Core.List.{[], map}
 use mathlib.Core.Logic.{⊎_elim}
 use Prim.Native.Nat.{ℕ, ◌/◌}
 use native.Mathlib.Omega.{arith}
-use borrow.Author.Rules.{rules}
 use lib.ListN.{get_or, length, get_or-map}
 use Rattle.mc_crosstalk.specs.Crosstalk.{predictedOf, predictorsOf}
 use Rattle.mc_crosstalk.specs.CrosstalkLaws.{predictors-even, predicted-other}

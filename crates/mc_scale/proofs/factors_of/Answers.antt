@@ -1,10 +1,8 @@
 -- `mc_scale::factors_of` meets its contract. The loop fills the factors in order.
-use Prim.Native.Nat.{ℕ, ◌-◌}
+use Prim.Native.Nat.{◌-◌}
 use lib.Ieee.{nan}
-use lib.ListN.{get_or}
 use borrow.Author.Rules.{rules}
-use Rattle.fill.specs.InOrder.{Filling, starts, more, ends-all}
-use Rattle.tables.specs.Scalefactor.{scalefactorOf}
+use Rattle.fill.specs.InOrder.{starts, more, ends-all}
 use Rattle.tables.specs.Lookup.{scalefactors-at}
 use Rattle.mc_scale.specs.Code.ScaleByPlace.{factorsOf}
 use native.Mathlib.Omega.{arith}

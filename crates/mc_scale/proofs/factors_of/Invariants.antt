@@ -1,13 +1,8 @@
 -- `mc_scale::factors_of` meets its contract. The loop fills the factors in order.
 use Prim.Native.Nat.{ℕ, ◌-◌}
-use lib.Ieee.{nan}
 use lib.ListN.{get_or}
-use borrow.Author.Rules.{rules}
-use Rattle.fill.specs.InOrder.{Filling, starts, more, ends-all}
+use Rattle.fill.specs.InOrder.{Filling}
 use Rattle.tables.specs.Scalefactor.{scalefactorOf}
-use Rattle.tables.specs.Lookup.{scalefactors-at}
-use Rattle.mc_scale.specs.Code.ScaleByPlace.{factorsOf}
-use native.Mathlib.Omega.{arith}
 use Rattle.mc_scale.proofs.factors_of.Given as goal
 
 abbrev pub invariant-loop-i : goal.invariant-loop-i

@@ -1,17 +1,15 @@
 -- `mc_scale::scale` meets its contract. The loop writes one column a turn: those whose turn has been hold the scaled values.
 use mathlib.Core.Path.{◌≡◌, ◌∙◌}
 use mathlib.Core.List.{List}
-use mathlib.Core.Logic.{⊎_elim}
-use Prim.Native.Nat.{ℕ, ◌-◌, ◌≤◌, ◌<◌}
+use Prim.Native.Nat.{ℕ, ◌-◌, ◌<◌}
 use lib.Ieee.{Float}
 use lib.ListN.{length}
-use borrow.Author.Rules.{rules}
 use Rattle.floats.specs.Binary64.{zero64}
 use Rattle.fill.specs.Tab.{tab}
 use Rattle.fill.specs.TabLaws.{length-tab}
 use Rattle.fill.specs.ByTurn.{turn-starts}
 use Rattle.mc_scale.specs.Code.Column.{placeAt}
-use Rattle.mc_scale.specs.Laws.ScaleByPlace.{Scaling, scaling-more, scaling-skip, scaling-ends}
+use Rattle.mc_scale.specs.Laws.ScaleByPlace.{scaling-more, scaling-skip, scaling-ends}
 use Rattle.mc_scale.specs.Laws.TwoSteps.{one-step}
 use native.Mathlib.Omega.{arith}
 use Rattle.mc_scale.proofs.scale.Goals as goal

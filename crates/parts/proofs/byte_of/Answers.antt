@@ -1,6 +1,5 @@
 -- `parts::byte_of` meets its contract: each return goes by the tests that led there.
 use borrow.Author.Tests.{lt-ltb, le-ltb}
-use borrow.Author.Rules.{rules}
 use Rattle.parts.proofs.byte_of.Goals as goal
 
 pub returns-then-k-lt17 : goal.returns-then-k-lt17

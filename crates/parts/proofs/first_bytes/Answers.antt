@@ -1,6 +1,5 @@
 -- `parts::first_bytes` meets its contract.
 use Rattle.parts.specs.PartsLaws.{first-bytes}
-use borrow.Author.Rules.{rules}
 use Rattle.parts.proofs.first_bytes.Goals as goal
 
 pub returns : goal.returns

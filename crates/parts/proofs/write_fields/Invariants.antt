@@ -1,10 +1,7 @@
 -- `parts::write_fields` meets its contract. The loop fills the bytes in order.
 use Prim.Native.Nat.{◌-◌}
-use native.Mathlib.Omega.{arith}
-use borrow.Author.Rules.{rules}
-use Rattle.fill.specs.InOrder.{Filling, starts, more, ends-all}
+use Rattle.fill.specs.InOrder.{Filling}
 use Rattle.part_tables.specs.Parts.{byteOf}
-use Rattle.parts.specs.PartsLaws.{all-bytes}
 use Rattle.parts.proofs.write_fields.Given as goal
 
 abbrev pub invariant-loop-k : goal.invariant-loop-k

@@ -1,6 +1,5 @@
 -- `parts::write_head` meets its contract.
 use Rattle.parts.specs.PartsLaws.{writes-accepted, writes-refused}
-use borrow.Author.Rules.{rules}
 use Rattle.parts.proofs.write_head.Goals as goal
 
 pub returns-in-Accepted : goal.returns-in-Accepted

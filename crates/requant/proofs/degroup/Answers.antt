@@ -1,6 +1,5 @@
 -- `requant::degroup` meets its contract.
 use mathlib.Core.Path.{refl}
-use borrow.Author.Rules.{rules}
 use Rattle.requant.specs.Requant.{degrouped}
 use Rattle.requant.proofs.degroup.Goals as goal
 

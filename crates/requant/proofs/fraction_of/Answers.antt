@@ -1,5 +1,4 @@
 -- `requant::fraction_of` meets its contract: its difference is the code with its first bit inverted, in two's complement, and the inverse of a power of two is exact.
-use borrow.Author.Rules.{rules}
 use Rattle.requant.proofs.Machine.{code_fits, msb-fits, difference-fits, product}
 use Rattle.requant.proofs.fraction_of.Goals as goal
 

@@ -2,7 +2,6 @@
 use mathlib.Core.Path.{◌≡◌, ap₂}
 use Prim.Native.Nat.{ℕ, ◌+◌}
 use lib.Ieee.{Float, binary64, mul}
-use borrow.Author.Rules.{rules}
 use Rattle.tables.specs.Scalefactor.{scalefactorOf}
 use Rattle.requant.specs.Requant.{lfeOf, lfeSampleOf}
 use Rattle.requant.proofs.lfe_sample.Goals as goal

@@ -2,7 +2,6 @@
 use mathlib.Core.Path.{◌≡◌, ap₂}
 use Prim.Native.Nat.{ℕ}
 use lib.Ieee.{Float, binary64, sub, div, of_bits}
-use borrow.Author.Rules.{rules}
 use Rattle.requant.specs.Requant.{whole, coefficientOf}
 use Rattle.requant.proofs.Literal.{literal-32, literal-127}
 use Rattle.requant.proofs.pred_coef.Goals as goal

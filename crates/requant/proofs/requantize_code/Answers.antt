@@ -2,7 +2,6 @@
 use mathlib.Core.Path.{◌≡◌, ap}
 use Prim.Native.Nat.{ℕ}
 use lib.Ieee.{Float, binary64, add, mul}
-use borrow.Author.Rules.{rules}
 use Rattle.bitalloc.specs.declared.QuantClass.{QuantClass}
 use Rattle.requant.specs.Requant.{fraction, requantized}
 use Rattle.requant.proofs.requantize_code.Goals as goal

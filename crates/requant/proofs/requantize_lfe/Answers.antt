@@ -5,7 +5,6 @@ use Prim.Native.Nat.{ℕ, ◌+◌, ◌-◌, ◌*◌, ◌%◌, ◌^◌, ◌≤◌
 use native.Mathlib.Omega.{arith}
 use lib.Dec.{T}
 use lib.Ieee.{Float, binary64, add, sub, mul, div, of_bits, of_int}
-use borrow.Author.Rules.{rules}
 use Rattle.floats.specs.Same.{same, same→}
 use Rattle.floats.specs.Table.{all, all_from}
 use Rattle.requant.specs.Requant.{whole, fraction, lfeC, lfeD, lfeOf}

@@ -4,7 +4,6 @@ use native.Mathlib.Nat.{mod-lt}
 use lib.Pow.{pow_pos, pow_mono}
 use Rattle.window.proofs.Window.{one_shl_64}
 use native.Mathlib.Omega.{arith}
-use borrow.Author.Rules.{rules}
 use Rattle.window.proofs.field_of.Goals as goal
 
 small : (n x : ℕ) → n ≤ 16 → x % 2 ^ n < 4294967296

@@ -2,7 +2,6 @@
 use native.Mathlib.Omega.{arith}
 use Rattle.window.specs.ThreeLaws.{value-two, three-window, three-read}
 use Rattle.window.proofs.Window.{word_small}
-use borrow.Author.Rules.{rules}
 use Rattle.window.proofs.field_of.Reads as field-of-reads
 use Rattle.cursor.proofs.read.Reads as read-reads
 use Rattle.window.proofs.wide.Reads as wide-reads

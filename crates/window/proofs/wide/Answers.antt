@@ -2,7 +2,6 @@
 use mathlib.Core.Bool.{false≢true}
 use native.Mathlib.Omega.{arith}
 use borrow.Author.Tests.{leb-true}
-use borrow.Author.Rules.{rules}
 use Rattle.window.proofs.wide.Goals as goal
 
 pub returns-then-n-eq0 : goal.returns-then-n-eq0

@@ -1,6 +1,5 @@
 -- `cursor::word_at` meets its contract.
 use Rattle.window.proofs.Window.{word-computed}
-use borrow.Author.Rules.{rules}
 use Rattle.window.proofs.wider.Reads as wider-reads
 use Rattle.window.proofs.word_at.Goals as goal
 

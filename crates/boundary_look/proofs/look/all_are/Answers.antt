@@ -1,12 +1,6 @@
 -- `boundary_look::look::all_are` meets its contract: at k the flag is the test of the first k values.
-use Prim.Native.Nat.{ℕ, ◌-◌, ◌≤◌}
-use mathlib.Core.Path.{◌≡◌}
+use Prim.Native.Nat.{◌-◌}
 use native.Mathlib.Omega.{arith}
-use borrow.Author.Rules.{rules}
-use lib.Ieee.{nan}
-use lib.ListN.{length, get_or}
-use Rattle.fill.specs.Each.{each}
-use Rattle.boundary_look.specs.Look.{same}
 use Rattle.fill.specs.EachLaws.{each_start, each_next, each-end}
 use Rattle.boundary_look.proofs.look.all_are.Goals as goal
 

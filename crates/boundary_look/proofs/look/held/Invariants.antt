@@ -1,12 +1,8 @@
 -- `boundary_look::look::held` meets its contract: before each slot the flags are the tests of the slots before it.
 use Prim.Native.Nat.{◌-◌, ◌≤◌}
-use mathlib.Core.Path.{◌≡◌, sym, ◌∙◌}
-use native.Mathlib.Omega.{arith}
-use borrow.Author.Rules.{rules}
+use mathlib.Core.Path.{◌≡◌}
 use Rattle.fill.specs.Each.{each}
 use Rattle.boundary_look.specs.Look.{zerosAt, basesAt}
-use Rattle.fill.specs.EachLaws.{each_start, each_next, each-end}
-use Rattle.boundary_look.specs.LookLaws.{held-zeros, held-bases, held-others}
 use Rattle.boundary_look.proofs.look.held.Given as goal
 
 abbrev pub invariant-loop-slot : goal.invariant-loop-slot

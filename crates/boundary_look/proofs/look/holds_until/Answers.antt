@@ -1,9 +1,7 @@
 -- `boundary_look::look::holds_until` meets its contract: the search from the first subband is the search from here.
 use Prim.Native.Nat.{◌-◌}
-use mathlib.Core.Path.{◌≡◌, refl, sym, ◌∙◌}
+use mathlib.Core.Path.{sym, ◌∙◌}
 use native.Mathlib.Omega.{arith}
-use borrow.Author.Rules.{rules}
-use Rattle.boundary_look.specs.Look.{heldUntil}
 use Rattle.boundary_look.specs.LookLaws.{until-next, until-here, until_end}
 use Rattle.boundary_look.proofs.look.holds_until.Goals as goal
 

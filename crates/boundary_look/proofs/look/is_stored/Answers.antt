@@ -1,10 +1,6 @@
 -- `boundary_look::look::is_stored` meets its contract: at k the flag is the test of the first k places of both halves.
-use Prim.Native.Nat.{◌-◌, ◌≤◌}
-use mathlib.Core.Path.{◌≡◌}
+use Prim.Native.Nat.{◌-◌}
 use native.Mathlib.Omega.{arith}
-use borrow.Author.Rules.{rules}
-use Rattle.fill.specs.Each.{each}
-use Rattle.boundary_look.specs.Look.{stored_at}
 use Rattle.fill.specs.EachLaws.{each_start, each-end}
 use Rattle.boundary_look.specs.LookLaws.{stored_next}
 use Rattle.boundary_look.proofs.look.is_stored.Goals as goal

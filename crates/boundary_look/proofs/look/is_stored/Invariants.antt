@@ -1,12 +1,8 @@
 -- `boundary_look::look::is_stored` meets its contract: at k the flag is the test of the first k places of both halves.
 use Prim.Native.Nat.{◌-◌, ◌≤◌}
 use mathlib.Core.Path.{◌≡◌}
-use native.Mathlib.Omega.{arith}
-use borrow.Author.Rules.{rules}
 use Rattle.fill.specs.Each.{each}
 use Rattle.boundary_look.specs.Look.{stored_at}
-use Rattle.fill.specs.EachLaws.{each_start, each-end}
-use Rattle.boundary_look.specs.LookLaws.{stored_next}
 use Rattle.boundary_look.proofs.look.is_stored.Given as goal
 
 abbrev pub invariant-loop-k : goal.invariant-loop-k

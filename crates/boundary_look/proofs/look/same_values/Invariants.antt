@@ -1,14 +1,10 @@
 -- `boundary_look::look::same_values` meets its contract: at k the flag is the test of the first k places.
 use Prim.Native.Nat.{ℕ, ◌-◌, ◌≤◌}
 use mathlib.Core.Path.{◌≡◌}
-use native.Mathlib.Omega.{arith}
-use borrow.Author.Rules.{rules}
 use lib.Ieee.{nan}
 use lib.ListN.{length, get_or}
 use Rattle.fill.specs.Each.{each}
 use Rattle.boundary_look.specs.Look.{same}
-use Rattle.fill.specs.EachLaws.{each_start, each_next, each-end}
-use Rattle.boundary_look.specs.LookLaws.{lengths_differ, lengths-agree}
 use Rattle.boundary_look.proofs.look.same_values.Given as goal
 
 abbrev pub invariant-loop-k : goal.invariant-loop-k

@@ -1,10 +1,6 @@
 -- `boundary_look::look::third_is_silent` meets its contract: at k the flag is the test of the first k values.
-use Prim.Native.Nat.{◌-◌, ◌≤◌}
-use mathlib.Core.Path.{◌≡◌}
+use Prim.Native.Nat.{◌-◌}
 use native.Mathlib.Omega.{arith}
-use borrow.Author.Rules.{rules}
-use Rattle.fill.specs.Each.{each}
-use Rattle.boundary_look.specs.Look.{thirdIsSilent}
 use Rattle.fill.specs.EachLaws.{each_start, each_next, each-end}
 use Rattle.boundary_look.proofs.look.third_is_silent.Goals as goal
 

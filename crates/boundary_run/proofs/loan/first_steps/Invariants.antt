@@ -1,8 +1,6 @@
 -- `boundary_run::loan::first_steps` meets its contract. The loop fills the list in order.
 use Prim.Native.Nat.{◌-◌}
-use native.Mathlib.Omega.{arith}
-use borrow.Author.Rules.{rules}
-use Rattle.fill.specs.InOrder.{Filling, starts, more, ends-all}
+use Rattle.fill.specs.InOrder.{Filling}
 use Rattle.boundary_run.specs.Loan.{stepAt}
 use Rattle.boundary_run.proofs.loan.first_steps.Given as goal
 

@@ -1,8 +1,6 @@
 -- `boundary_run::loan::payload_from` meets its contract. The loop fills the list in order.
 use Prim.Native.Nat.{◌-◌}
-use native.Mathlib.Omega.{arith}
-use borrow.Author.Rules.{rules}
-use Rattle.fill.specs.InOrder.{Filling, starts, more, ends-all}
+use Rattle.fill.specs.InOrder.{Filling}
 use Rattle.boundary_run.specs.Loan.{byteFrom}
 use Rattle.boundary_run.proofs.loan.payload_from.Given as goal
 

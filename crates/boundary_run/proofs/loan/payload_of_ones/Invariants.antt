@@ -1,8 +1,6 @@
 -- `boundary_run::loan::payload_of_ones` meets its contract. The loop fills the list in order.
 use Prim.Native.Nat.{◌-◌}
-use native.Mathlib.Omega.{arith}
-use borrow.Author.Rules.{rules}
-use Rattle.fill.specs.InOrder.{Filling, starts, more, ends-all}
+use Rattle.fill.specs.InOrder.{Filling}
 use Rattle.boundary_run.specs.Loan.{onesAt}
 use Rattle.boundary_run.proofs.loan.payload_of_ones.Given as goal
 

@@ -1,9 +1,6 @@
 -- `boundary_run::loan::ramp` meets its contract. The loop fills the list in order.
 use Prim.Native.Nat.{◌-◌}
-use mathlib.Core.Path.{refl}
-use native.Mathlib.Omega.{arith}
-use borrow.Author.Rules.{rules}
-use Rattle.fill.specs.InOrder.{Filling, starts, more, ends-all}
+use Rattle.fill.specs.InOrder.{Filling}
 use Rattle.boundary_run.specs.Loan.{rampAt}
 use Rattle.boundary_run.proofs.loan.ramp.Given as goal
 

@@ -6,7 +6,6 @@ use lib.ListN.{length}
 use lib.Seq.{length-take-le}
 use Rattle.fill.specs.TabLaws.{length-tab}
 use Rattle.boundary_run.specs.Loan.{rampAt}
-use borrow.Author.Rules.{rules}
 use Rattle.boundary_run.specs.Run.{afterRun}
 use Rattle.boundary_run.specs.RunLaws.{is-run, found-is}
 use Rattle.boundary_run.proofs.run.run.Goals as goal

@@ -1,10 +1,7 @@
 -- `boundary_run::string::byte` meets its contract: at k the value is that of the first k places.
 use Prim.Native.Nat.{◌≤◌, ◌<◌, ◌-◌}
-use mathlib.Core.Path.{◌≡◌, refl, ap, ◌∙◌}
-use native.Mathlib.Omega.{arith}
-use borrow.Author.Rules.{rules}
+use mathlib.Core.Path.{◌≡◌}
 use Rattle.boundary_run.specs.String.{byteOf}
-use Rattle.boundary_run.specs.StringLaws.{byte_more}
 use Rattle.boundary_run.proofs.string.byte.Given as goal
 
 abbrev pub invariant-loop-k : goal.invariant-loop-k

@@ -1,9 +1,8 @@
 -- `boundary_run::string::bytes` meets its contract. The loop fills the list in order.
-use Prim.Native.Nat.{ℕ, ◌*◌, ◌-◌}
+use Prim.Native.Nat.{◌-◌}
 use native.Mathlib.Omega.{arith}
 use borrow.Author.Rules.{rules}
-use Rattle.fill.specs.InOrder.{Filling, starts, more, ends-all}
-use Rattle.boundary_run.specs.String.{byteOf}
+use Rattle.fill.specs.InOrder.{starts, more, ends-all}
 use Rattle.boundary_run.proofs.string.bytes.Goals as goal
 
 pub loop-k-init : goal.loop-k-init

@@ -1,8 +1,6 @@
 -- `boundary_run::string::bytes` meets its contract. The loop fills the list in order.
 use Prim.Native.Nat.{ℕ, ◌*◌, ◌-◌}
-use native.Mathlib.Omega.{arith}
-use borrow.Author.Rules.{rules}
-use Rattle.fill.specs.InOrder.{Filling, starts, more, ends-all}
+use Rattle.fill.specs.InOrder.{Filling}
 use Rattle.boundary_run.specs.String.{byteOf}
 use Rattle.boundary_run.proofs.string.bytes.Given as goal
 

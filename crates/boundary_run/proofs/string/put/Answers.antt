@@ -1,10 +1,7 @@
 -- `boundary_run::string::put` meets its contract: what is left to put into the places so far is the whole.
-use mathlib.Core.Path.{◌≡◌, refl, sym, ◌∙◌}
-use Prim.Native.Nat.{◌≤◌}
+use mathlib.Core.Path.{refl, sym, ◌∙◌}
 use native.Mathlib.Omega.{arith}
-use lib.ListN.{length, length-set}
-use borrow.Author.Rules.{rules}
-use Rattle.boundary_run.specs.String.{putBits}
+use lib.ListN.{length-set}
 use Rattle.boundary_run.specs.StringLaws.{put_one, put-none}
 use Rattle.boundary_run.proofs.string.put.Goals as goal
 

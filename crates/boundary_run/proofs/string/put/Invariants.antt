@@ -1,11 +1,8 @@
 -- `boundary_run::string::put` meets its contract: what is left to put into the places so far is the whole.
-use mathlib.Core.Path.{◌≡◌, refl, sym, ◌∙◌}
+use mathlib.Core.Path.{◌≡◌}
 use Prim.Native.Nat.{◌≤◌}
-use native.Mathlib.Omega.{arith}
-use lib.ListN.{length, length-set}
-use borrow.Author.Rules.{rules}
+use lib.ListN.{length}
 use Rattle.boundary_run.specs.String.{putBits}
-use Rattle.boundary_run.specs.StringLaws.{put_one, put-none}
 use Rattle.boundary_run.proofs.string.put.Given as goal
 
 abbrev pub invariant-loop-left : goal.invariant-loop-left

@@ -6,7 +6,6 @@ use lib.ListN.{length-take}
 use lib.Seq.{length-take-le}
 use Rattle.frame_file.specs.FileLaws.{right_of}
 use Rattle.frame_body.specs.LentLaws.{front-tab, front-room, front-count, decoded}
-use borrow.Author.Rules.{rules}
 use Rattle.frame_body.proofs.body.decode_body.Goals as goal
 
 pub slice_bounds-steps-end : goal.slice_bounds-steps-end

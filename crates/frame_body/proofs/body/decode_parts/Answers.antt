@@ -2,7 +2,6 @@
 use Rattle.frame_body.specs.Lent.{lentFrom}
 use Rattle.frame_file.specs.FileLaws.{right_of}
 use native.Mathlib.Omega.{arith}
-use borrow.Author.Rules.{rules}
 use Rattle.frame_body.proofs.body.decode_parts.Goals as goal
 
 pub slice_bounds-frame-end-3 : goal.slice_bounds-frame-end-3

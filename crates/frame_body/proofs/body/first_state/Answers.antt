@@ -1,7 +1,6 @@
 -- `frame_body::body::first_state` meets its contract.
 use Rattle.frame_body.specs.Lent.{firstState}
 use mathlib.Core.Path.{◌∙◌}
-use borrow.Author.Rules.{rules}
 use Rattle.frame_body.proofs.body.first_state.Goals as goal
 
 pub returns : goal.returns

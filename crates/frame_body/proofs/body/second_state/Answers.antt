@@ -1,6 +1,5 @@
 -- `frame_body::body::second_state` meets its contract.
 use Rattle.frame_body.specs.Lent.{secondState}
-use borrow.Author.Rules.{rules}
 use Rattle.frame_body.proofs.body.second_state.Goals as goal
 
 pub returns : goal.returns

@@ -1,10 +1,7 @@
 -- `frame_file::numbers::fill_steps` meets its contract. The loop fills the step counts in order.
 use Prim.Native.Nat.{◌-◌}
 use native.Mathlib.Omega.{arith}
-use borrow.Author.Rules.{rules}
-use lib.ListN.{length}
-use Rattle.fill.specs.InOrder.{Filling, starts, more, ends-all}
-use Rattle.frame_file.specs.File.{stepAt}
+use Rattle.fill.specs.InOrder.{starts, more, ends-all}
 use Rattle.frame_file.proofs.numbers.fill_steps.Goals as goal
 
 pub loop-k-init : goal.loop-k-init

@@ -1,9 +1,7 @@
 -- `frame_file::numbers::fill_steps` meets its contract. The loop fills the step counts in order.
 use Prim.Native.Nat.{◌-◌}
-use native.Mathlib.Omega.{arith}
-use borrow.Author.Rules.{rules}
 use lib.ListN.{length}
-use Rattle.fill.specs.InOrder.{Filling, starts, more, ends-all}
+use Rattle.fill.specs.InOrder.{Filling}
 use Rattle.frame_file.specs.File.{stepAt}
 use Rattle.frame_file.proofs.numbers.fill_steps.Given as goal
 

@@ -1,6 +1,5 @@
 -- `frame_file::numbers::numbers_from` meets its contract.
 use Rattle.frame_file.specs.File.{numbersFrom}
-use borrow.Author.Rules.{rules}
 use Rattle.frame_file.proofs.numbers.numbers_from.Goals as goal
 
 pub returns : goal.returns

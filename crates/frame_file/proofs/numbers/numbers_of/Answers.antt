@@ -1,6 +1,5 @@
 -- `frame_file::numbers::numbers_of` meets its contract.
 use borrow.Author.Tests.{eq-eqb, ne_eqb}
-use borrow.Author.Rules.{rules}
 use Rattle.frame_file.specs.File.{numbersOf}
 use Rattle.frame_file.proofs.numbers.numbers_of.Goals as goal
 

@@ -2,7 +2,6 @@
 use Rattle.frame_file.specs.FileLaws.{opening-empty, opening-other, opening-cut, opening-flag, opening-right}
 use mathlib.Core.Path.{sym, ◌∙◌}
 use native.Mathlib.Omega.{arith}
-use borrow.Author.Rules.{rules}
 use Rattle.frame_file.proofs.numbers.opening_fault.Goals as goal
 
 pub returns-then-bytes-eq0 : goal.returns-then-bytes-eq0

@@ -1,7 +1,6 @@
 -- `frame_file::numbers::version_of` meets its contract: each return goes by the tests that led there.
 use Rattle.frame_file.specs.FileLaws.{version-first, version-second, version-none}
 use mathlib.Core.Path.{sym, ◌∙◌}
-use borrow.Author.Rules.{rules}
 use Rattle.frame_file.proofs.numbers.version_of.Goals as goal
 
 pub returns-then-letters-eq-FIRST : goal.returns-then-letters-eq-FIRST

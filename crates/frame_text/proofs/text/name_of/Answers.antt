@@ -4,7 +4,6 @@ use Rattle.fill.specs.Tab.{tab}
 use Rattle.fill.specs.Ascii.{ascii}
 use Rattle.frame_text.specs.Text.{name_of}
 use Rattle.frame_text.specs.TextLaws.{spelled, name-last}
-use borrow.Author.Rules.{rules}
 use Rattle.frame_text.proofs.text.name_of.Goals as goal
 
 pub returns-in-0 : goal.returns-in-0

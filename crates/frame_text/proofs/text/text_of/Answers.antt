@@ -2,8 +2,7 @@
 use Prim.Native.Nat.{◌-◌}
 use native.Mathlib.Omega.{arith}
 use mathlib.Core.Path.{refl}
-use lib.ListN.{length, get_or}
-use Rattle.fill.specs.InOrder.{Filling, starts, more}
+use Rattle.fill.specs.InOrder.{starts, more}
 use Rattle.frame_text.specs.TextLaws.{copied}
 use Rattle.frame_text.proofs.text.text_of.Goals as goal
 

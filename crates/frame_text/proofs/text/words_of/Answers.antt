@@ -4,7 +4,6 @@ use Rattle.fill.specs.Tab.{tab}
 use Rattle.fill.specs.Ascii.{ascii}
 use Rattle.frame_text.specs.Text.{words_of}
 use Rattle.frame_text.specs.TextLaws.{spelled}
-use borrow.Author.Rules.{rules}
 use Rattle.frame_text.proofs.text.words_of.Goals as goal
 
 pub returns-in-UnexpectedEnd : goal.returns-in-UnexpectedEnd

@@ -1,5 +1,4 @@
 -- `allocations::allocation_fits` meets its contract.
-use borrow.Author.Rules.{rules}
 use Rattle.mc_allocations.specs.AllocationsLaws.{allocation-zero, allocation-unsent, allocation-class}
 use Rattle.mc_allocations.proofs.allocations.allocation_fits.Goals as goal
 

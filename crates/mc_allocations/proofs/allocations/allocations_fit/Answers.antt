@@ -1,10 +1,8 @@
 -- `allocations::allocations_fit` meets its contract.
-use mathlib.Core.Path.{◌≡◌, ap}
+use mathlib.Core.Path.{ap}
 use mathlib.Core.Bool.{true, not}
-use Prim.Native.Nat.{◌-◌, ◌≤◌}
+use Prim.Native.Nat.{◌-◌}
 use native.Mathlib.Omega.{arith}
-use borrow.Author.Rules.{rules}
-use Rattle.fill.specs.Each.{each}
 use Rattle.mc_allocations.specs.AllocationsBy.{allocationAt}
 use Rattle.fill.specs.EachLaws.{each_none, each_left, each_on, each_all}
 use Rattle.mc_allocations.specs.AllocationsLaws.{allocations-refused, allocations-none, allocations-lfe}

@@ -2,12 +2,8 @@
 use mathlib.Core.Path.{◌≡◌}
 use mathlib.Core.Bool.{true}
 use Prim.Native.Nat.{◌-◌, ◌≤◌}
-use native.Mathlib.Omega.{arith}
-use borrow.Author.Rules.{rules}
 use Rattle.fill.specs.Each.{each}
 use Rattle.mc_allocations.specs.AllocationsBy.{allocationAt}
-use Rattle.fill.specs.EachLaws.{each_none, each_left, each_on, each_all}
-use Rattle.mc_allocations.specs.AllocationsLaws.{allocations-refused, allocations-none, allocations-lfe}
 use Rattle.mc_allocations.proofs.allocations.allocations_fit.Given as goal
 
 abbrev pub invariant-loop-k : goal.invariant-loop-k

@@ -3,7 +3,6 @@ use mathlib.Core.Path.{ap}
 use mathlib.Core.Bool.{not}
 use Rattle.mc_codes.specs.Outcome.{codes_of}
 use Rattle.mc_body.specs.UnpackedLaws.{lfe-low, surround-low, base-fits, history-same, written_is, refused-number, writable, delays-small, after-refused, after-changed, after-accepted}
-use borrow.Author.Rules.{rules}
 use Rattle.mc_body.proofs.unpacked.unpacked_frame.Goals as goal
 
 pub read_mc_payload-p-requires : goal.read_mc_payload-p-requires

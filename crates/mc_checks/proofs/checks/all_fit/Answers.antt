@@ -2,12 +2,11 @@
 use mathlib.Core.Path.{◌≡◌, refl, ap, ◌∙◌}
 use mathlib.Core.Bool.{Bool, ◌&&◌, and_assoc}
 use mathlib.Core.List.{List}
-use Prim.Native.Nat.{ℕ, ◌+◌, ◌≤◌, ◌-◌}
+use Prim.Native.Nat.{ℕ, ◌+◌, ◌-◌}
 use native.Mathlib.Numerals.{add-one}
 use native.Mathlib.Omega.{arith}
 use lib.Ieee.{Float, nan, le, neg}
 use lib.ListN.{length, get_or}
-use borrow.Author.Rules.{rules}
 use Rattle.fill.specs.Each.{each}
 use Rattle.mc_state.specs.Frame.{four, valueFits}
 use Rattle.mc_checks.proofs.checks.all_fit.Reads as reads

@@ -1,15 +1,10 @@
 -- `mc_state::checks::all_fit` meets its contract: at k the flag is the test of the first k values.
-use mathlib.Core.Path.{◌≡◌, refl, ap, ◌∙◌}
-use mathlib.Core.Bool.{Bool, ◌&&◌, and_assoc}
-use mathlib.Core.List.{List}
-use Prim.Native.Nat.{ℕ, ◌+◌, ◌≤◌, ◌-◌}
-use native.Mathlib.Numerals.{add-one}
-use native.Mathlib.Omega.{arith}
-use lib.Ieee.{Float, nan, le, neg}
+use mathlib.Core.Path.{◌≡◌}
+use Prim.Native.Nat.{ℕ, ◌≤◌, ◌-◌}
+use lib.Ieee.{nan}
 use lib.ListN.{length, get_or}
-use borrow.Author.Rules.{rules}
 use Rattle.fill.specs.Each.{each}
-use Rattle.mc_state.specs.Frame.{four, valueFits}
+use Rattle.mc_state.specs.Frame.{valueFits}
 use Rattle.mc_checks.proofs.checks.all_fit.Reads as reads
 use Rattle.mc_checks.proofs.checks.all_fit.Lts as lts
 use Rattle.mc_checks.proofs.checks.all_fit.Given as goal

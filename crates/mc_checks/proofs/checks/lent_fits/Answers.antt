@@ -2,7 +2,6 @@
 use mathlib.Core.Path.{◌≡◌}
 use mathlib.Core.Bool.{Bool, ◌&&◌}
 use Rattle.mc_state.specs.Frame.{lent_by}
-use borrow.Author.Rules.{rules}
 use Rattle.mc_checks.proofs.checks.lent_fits.Goals as goal
 
 -- src/checks.rt:87:9

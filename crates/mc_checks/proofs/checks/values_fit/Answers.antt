@@ -1,6 +1,5 @@
 use mathlib.Core.Path.{◌≡◌}
 use mathlib.Core.Bool.{Bool, ◌&&◌}
-use borrow.Author.Rules.{rules}
 use Rattle.mc_state.specs.Frame.{valuesFit}
 use Rattle.mc_checks.proofs.checks.values_fit.Reads as reads
 use Rattle.mc_checks.proofs.checks.values_fit.Lts as lts

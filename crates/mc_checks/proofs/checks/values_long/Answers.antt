@@ -1,5 +1,4 @@
 -- `mc_state::checks::values_long` meets its contract.
-use borrow.Author.Rules.{rules}
 use Rattle.mc_checks.proofs.checks.values_long.Reads as reads
 use Rattle.mc_checks.proofs.checks.values_long.Lts as lts
 use Rattle.mc_checks.proofs.checks.right_length.Reads as right-length-reads

@@ -2,9 +2,7 @@
 use mathlib.Core.Path.{refl}
 use Prim.Native.Nat.{◌-◌}
 use native.Mathlib.Omega.{arith}
-use lib.ListN.{get_or}
-use borrow.Author.Rules.{rules}
-use Rattle.fill.specs.InOrder.{Filling, starts, more, ends-all}
+use Rattle.fill.specs.InOrder.{starts, more, ends-all}
 use Rattle.bitalloc.specs.Classes
 use Rattle.mc_codes.specs.Parts.{widthsOf, groups_of}
 use Rattle.mc_codes.proofs.granules.codewords_of.Goals as goal

@@ -1,12 +1,8 @@
 -- `granules::codewords_of` meets its contract.
-use mathlib.Core.Path.{refl}
 use Prim.Native.Nat.{◌-◌}
-use native.Mathlib.Omega.{arith}
 use lib.ListN.{get_or}
-use borrow.Author.Rules.{rules}
-use Rattle.fill.specs.InOrder.{Filling, starts, more, ends-all}
+use Rattle.fill.specs.InOrder.{Filling}
 use Rattle.bitalloc.specs.Classes
-use Rattle.mc_codes.specs.Parts.{widthsOf, groups_of}
 use Rattle.mc_codes.proofs.granules.codewords_of.Given as goal
 
 abbrev pub invariant-loop-i : goal.invariant-loop-i

@@ -1,14 +1,10 @@
 -- `granules::read_granule` meets its contract.
-use mathlib.Core.Path.{◌≡◌, refl}
-use mathlib.Core.Logic.{⊎_elim}
-use Prim.Native.Nat.{◌-◌, ◌≤◌}
+use mathlib.Core.Path.{refl}
+use Prim.Native.Nat.{◌-◌}
 use native.Mathlib.Omega.{arith}
-use lib.ListN.{length, length-set}
+use lib.ListN.{length-set}
 use borrow.Author.Rules.{rules}
-use Rattle.bits.specs.Syntax.{times}
-use Rattle.cursor.specs.Cursor.{run_from}
 use Rattle.cursor.specs.CursorLaws.{cur-fits}
-use Rattle.mc_payload.specs.Payload.{samplesAt}
 use Rattle.mc_codes.proofs.GranulesRead.{kept-length, lfe-width, width-below, samples-read, samples-skip, granule-end}
 use Rattle.mc_codes.proofs.granules.read_granule.Goals as goal
 use Rattle.mc_codes.proofs.granules.read_granule.Goals.{then-own-i-ne0, else-own-i-ne0}

@@ -1,15 +1,10 @@
 -- `granules::read_granule` meets its contract.
-use mathlib.Core.Path.{◌≡◌, refl}
-use mathlib.Core.Logic.{⊎_elim}
+use mathlib.Core.Path.{◌≡◌}
 use Prim.Native.Nat.{◌-◌, ◌≤◌}
-use native.Mathlib.Omega.{arith}
-use lib.ListN.{length, length-set}
-use borrow.Author.Rules.{rules}
+use lib.ListN.{length}
 use Rattle.bits.specs.Syntax.{times}
 use Rattle.cursor.specs.Cursor.{run_from}
-use Rattle.cursor.specs.CursorLaws.{cur-fits}
 use Rattle.mc_payload.specs.Payload.{samplesAt}
-use Rattle.mc_codes.proofs.GranulesRead.{kept-length, lfe-width, width-below, samples-read, samples-skip, granule-end}
 use Rattle.mc_codes.proofs.granules.read_granule.Given as goal
 
 abbrev pub invariant-loop-i : goal.invariant-loop-i

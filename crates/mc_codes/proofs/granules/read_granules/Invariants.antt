@@ -1,13 +1,10 @@
 -- `granules::read_granules` meets its contract.
-use mathlib.Core.Path.{◌≡◌, refl}
+use mathlib.Core.Path.{◌≡◌}
 use Prim.Native.Nat.{◌-◌, ◌≤◌}
-use native.Mathlib.Omega.{arith}
 use lib.ListN.{length}
-use borrow.Author.Rules.{rules}
 use Rattle.bits.specs.Syntax.{times}
 use Rattle.cursor.specs.Cursor.{run_from}
 use Rattle.mc_payload.specs.Payload.{granuleAt, granules}
-use Rattle.mc_codes.proofs.GranulesRead.{kept-length, granules-next, granules-end}
 use Rattle.mc_codes.proofs.granules.read_granules.Given as goal
 
 abbrev pub invariant-loop-gr : goal.invariant-loop-gr

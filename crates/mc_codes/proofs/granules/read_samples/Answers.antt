@@ -2,7 +2,6 @@
 use native.Mathlib.Omega.{arith}
 use lib.ListN.{length-set}
 use mir.Syntax.{w16}
-use borrow.Author.Rules.{rules}
 use Rattle.cursor.specs.CursorLaws.{cur-fits}
 use Rattle.window.specs.ThreeLaws.{three-fits}
 use Rattle.mc_codes.proofs.GranulesRead.{group-ran, three-ran}

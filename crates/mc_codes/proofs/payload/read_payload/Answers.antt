@@ -1,5 +1,4 @@
 -- `payload::read_payload` meets its contract.
-use borrow.Author.Rules.{rules}
 use Rattle.mc_codes.proofs.PayloadRead.{payload-whole}
 use Rattle.mc_codes.proofs.payload.read_payload.Goals as goal
 

@@ -1,14 +1,10 @@
 -- `payload::read_scfsi` meets its contract.
-use mathlib.Core.Path.{◌≡◌, refl}
-use mathlib.Core.Logic.{⊎_elim}
+use mathlib.Core.Path.{refl}
 use Prim.Native.Nat.{◌-◌, ◌≤◌}
 use native.Mathlib.Omega.{arith}
 use lib.Dec.{lit≤}
-use borrow.Author.Rules.{rules}
-use Rattle.bits.specs.Syntax.{times}
-use Rattle.cursor.specs.Cursor.{run_from}
 use Rattle.cursor.specs.CursorLaws.{cur-fits}
-use Rattle.mc_payload.specs.Payload.{scfsiAt, scfsi}
+use Rattle.mc_payload.specs.Payload.{scfsi}
 use Rattle.mc_codes.proofs.ScfsiRead.{scfsi-read, scfsi-skip, scfsi-end}
 use Rattle.mc_codes.proofs.payload.read_scfsi.Goals as goal
 use Rattle.mc_codes.proofs.payload.read_scfsi.Goals.{then-steps-i-ne0, else-steps-i-ne0}

@@ -1,15 +1,9 @@
 -- `payload::read_scfsi` meets its contract.
-use mathlib.Core.Path.{◌≡◌, refl}
-use mathlib.Core.Logic.{⊎_elim}
+use mathlib.Core.Path.{◌≡◌}
 use Prim.Native.Nat.{◌-◌, ◌≤◌}
-use native.Mathlib.Omega.{arith}
-use lib.Dec.{lit≤}
-use borrow.Author.Rules.{rules}
 use Rattle.bits.specs.Syntax.{times}
 use Rattle.cursor.specs.Cursor.{run_from}
-use Rattle.cursor.specs.CursorLaws.{cur-fits}
 use Rattle.mc_payload.specs.Payload.{scfsiAt, scfsi}
-use Rattle.mc_codes.proofs.ScfsiRead.{scfsi-read, scfsi-skip, scfsi-end}
 use Rattle.mc_codes.proofs.payload.read_scfsi.Given as goal
 
 abbrev pub invariant-loop-i : goal.invariant-loop-i

@@ -1,6 +1,5 @@
 -- `predictors::read_predictor` meets its contract.
 use lib.Dec.{lit≤}
-use borrow.Author.Rules.{rules}
 use Rattle.cursor.specs.CursorLaws.{cur-fits}
 use Rattle.mc_codes.proofs.PredictorsRead.{width-most, predictor-ran}
 use Rattle.mc_codes.proofs.predictors.read_predictor.Goals as goal

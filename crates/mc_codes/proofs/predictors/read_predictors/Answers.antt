@@ -1,12 +1,8 @@
 -- `predictors::read_predictors` meets its contract.
-use mathlib.Core.Path.{◌≡◌, refl}
-use mathlib.Core.Logic.{⊎_elim}
-use Prim.Native.Nat.{◌-◌, ◌≤◌}
+use mathlib.Core.Path.{refl}
+use Prim.Native.Nat.{◌-◌}
 use native.Mathlib.Omega.{arith}
-use borrow.Author.Rules.{rules}
-use Rattle.bits.specs.Syntax.{times}
-use Rattle.cursor.specs.Cursor.{run_from}
-use Rattle.mc_payload.specs.Payload.{predictorAt, predictors}
+use Rattle.mc_payload.specs.Payload.{predictors}
 use Rattle.mc_codes.proofs.PredictorsRead.{predictor-read, predictor-skip, predictors-end}
 use Rattle.mc_codes.proofs.predictors.read_predictors.Goals as goal
 use Rattle.mc_codes.proofs.predictors.read_predictors.Goals.{then-n-ne0, else-n-ne0}

@@ -1,5 +1,4 @@
 -- `scalefactors::read_scalefactor` meets its contract.
-use borrow.Author.Rules.{rules}
 use Rattle.mc_codes.proofs.FactorsRead.{factor-ran, factor-small}
 use Rattle.mc_codes.proofs.scalefactors.read_scalefactor.Goals as goal
 

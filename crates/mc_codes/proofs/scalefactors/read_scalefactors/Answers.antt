@@ -1,12 +1,8 @@
 -- `scalefactors::read_scalefactors` meets its contract.
-use mathlib.Core.Path.{◌≡◌, refl}
-use mathlib.Core.Logic.{⊎_elim}
-use Prim.Native.Nat.{◌-◌, ◌≤◌}
+use mathlib.Core.Path.{refl}
+use Prim.Native.Nat.{◌-◌}
 use native.Mathlib.Omega.{arith}
-use borrow.Author.Rules.{rules}
-use Rattle.bits.specs.Syntax.{times}
-use Rattle.cursor.specs.Cursor.{run_from}
-use Rattle.mc_payload.specs.Payload.{factorsAt, scalefactors}
+use Rattle.mc_payload.specs.Payload.{scalefactors}
 use Rattle.mc_codes.proofs.FactorsRead.{factors-read, factors-skip, factors-end}
 use Rattle.mc_codes.proofs.scalefactors.read_scalefactors.Goals as goal
 use Rattle.mc_codes.proofs.scalefactors.read_scalefactors.Goals.{then-steps-i-ne0, else-steps-i-ne0}

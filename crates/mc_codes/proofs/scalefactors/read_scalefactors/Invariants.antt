@@ -1,13 +1,9 @@
 -- `scalefactors::read_scalefactors` meets its contract.
-use mathlib.Core.Path.{◌≡◌, refl}
-use mathlib.Core.Logic.{⊎_elim}
+use mathlib.Core.Path.{◌≡◌}
 use Prim.Native.Nat.{◌-◌, ◌≤◌}
-use native.Mathlib.Omega.{arith}
-use borrow.Author.Rules.{rules}
 use Rattle.bits.specs.Syntax.{times}
 use Rattle.cursor.specs.Cursor.{run_from}
 use Rattle.mc_payload.specs.Payload.{factorsAt, scalefactors}
-use Rattle.mc_codes.proofs.FactorsRead.{factors-read, factors-skip, factors-end}
 use Rattle.mc_codes.proofs.scalefactors.read_scalefactors.Given as goal
 
 abbrev pub invariant-loop-i : goal.invariant-loop-i

@@ -1,7 +1,6 @@
 -- `McConfig::from_header` meets its contract.
 use native.Mathlib.Omega.{arith}
 use borrow.Author.Tests.{ne_eqb}
-use borrow.Author.Rules.{rules}
 use Rattle.mc_config.specs.Config.{configOf}
 use Rattle.mc_config.specs.ConfigLaws.{main-most}
 use Rattle.mc_config.proofs.McConfig.from_header.Goals as goal

@@ -4,7 +4,6 @@ use mathlib.Core.List.{[], ◌∷◌, ◌++◌, append-nil}
 use Prim.Native.Nat.{ℕ, ◌<◌}
 use native.Mathlib.Omega.{arith}
 use borrow.Author.Tests.{ne_eqb}
-use borrow.Author.Rules.{rules}
 use lib.ListN.{length-append}
 use lib.Seq.{append_snoc}
 use Rattle.mc_config.specs.Config.{frontChannels, layout_of, leftSurround, secondLeft}

@@ -1,6 +1,5 @@
 -- `McConfig::main_nmch` meets its contract.
 use mathlib.Core.Path.{◌∙◌, ap}
-use borrow.Author.Rules.{rules}
 use Rattle.mc_config.specs.Config.{mainOf}
 use Rattle.mc_config.proofs.McConfig.main_nmch.Goals as goal
 

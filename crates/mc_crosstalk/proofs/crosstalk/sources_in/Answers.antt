@@ -1,7 +1,6 @@
 -- `crosstalk::sources_in` meets its contract.
 use mathlib.Core.Path.{refl}
 use mathlib.Core.List.{[]}
-use borrow.Author.Rules.{rules}
 use borrow.Author.Tests.{lt-ltb, le-ltb}
 use lib.ListN.{length, get_or-eq_default}
 use Rattle.mc_crosstalk.specs.Crosstalk.{T}

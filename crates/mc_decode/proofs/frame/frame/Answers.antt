@@ -3,7 +3,6 @@ use mathlib.Core.Path.{ap}
 use mathlib.Core.Bool.{not}
 use Rattle.mc_state.specs.Answer.{buffersFrom}
 use Rattle.mc_decode.specs.FrameLaws.{after-lent, lfe-low, long, after-desk, after-values, surround-low, after-head, after-payload}
-use borrow.Author.Rules.{rules}
 use Rattle.mc_decode.proofs.frame.frame.Goals as goal
 
 pub returns-then-not-lent_fits : goal.returns-then-not-lent_fits

@@ -1,5 +1,4 @@
 -- `mc_fields::header::read_mc_header` meets its contract.
-use borrow.Author.Rules.{rules}
 use lib.Dec.{lit≤}
 use Rattle.cursor.specs.CursorLaws.{cur-fits}
 use Rattle.mc_fields.specs.FieldLaws.{bits-if-most, if-fits}

@@ -1,13 +1,10 @@
 -- `loan::all_fit` meets its contract.
-use mathlib.Core.Path.{◌≡◌, sym}
+use mathlib.Core.Path.{◌≡◌}
 use mathlib.Core.Bool.{true}
 use Prim.Native.Nat.{◌-◌, ◌≤◌}
-use native.Mathlib.Omega.{arith}
 use lib.ListN.{get_or}
-use borrow.Author.Rules.{rules}
 use Rattle.fill.specs.Each.{each}
 use Rattle.mc_payload.specs.Unpack.{stepsFit}
-use Rattle.fill.specs.EachLaws.{each_none, each_left, each_on, each_all}
 use Rattle.mc_loan.proofs.loan.all_fit.Given as goal
 
 abbrev pub invariant-loop-k : goal.invariant-loop-k

@@ -1,7 +1,6 @@
 -- `loan::entry_at` meets its contract.
 use mathlib.Core.Path.{sym}
 use lib.ListN.{get_or-eq_default}
-use borrow.Author.Rules.{rules}
 use Rattle.mc_loan.proofs.loan.entry_at.Goals as goal
 
 pub returns-else-k-list : goal.returns-else-k-list

@@ -1,5 +1,4 @@
 -- `loan::settings` meets its contract.
-use borrow.Author.Rules.{rules}
 use Rattle.mc_payload.specs.Unpack.{settingsOf}
 use Rattle.mc_loan.proofs.loan.settings.Goals as goal
 

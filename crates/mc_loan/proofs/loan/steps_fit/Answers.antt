@@ -1,5 +1,4 @@
 -- `loan::steps_fit` meets its contract.
-use borrow.Author.Rules.{rules}
 use Rattle.mc_payload.specs.UnpackLaws.{steps-class}
 use Rattle.mc_loan.proofs.loan.steps_fit.Goals as goal
 

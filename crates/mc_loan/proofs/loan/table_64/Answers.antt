@@ -1,10 +1,8 @@
 -- `loan::table_64` meets its contract.
 use mathlib.Core.Path.{refl}
-use Prim.Native.Nat.{ℕ, ◌-◌}
+use Prim.Native.Nat.{◌-◌}
 use native.Mathlib.Omega.{arith}
-use lib.ListN.{get_or}
-use borrow.Author.Rules.{rules}
-use Rattle.fill.specs.InOrder.{Filling, starts, more, ends-all}
+use Rattle.fill.specs.InOrder.{starts, more, ends-all}
 use Rattle.mc_loan.proofs.loan.table_64.Goals as goal
 
 pub loop-k-init : goal.loop-k-init

@@ -1,10 +1,7 @@
 -- `loan::table_96` meets its contract.
-use mathlib.Core.Path.{refl}
 use Prim.Native.Nat.{ℕ, ◌-◌}
-use native.Mathlib.Omega.{arith}
 use lib.ListN.{get_or}
-use borrow.Author.Rules.{rules}
-use Rattle.fill.specs.InOrder.{Filling, starts, more, ends-all}
+use Rattle.fill.specs.InOrder.{Filling}
 use Rattle.mc_loan.proofs.loan.table_96.Given as goal
 
 abbrev pub invariant-loop-k : goal.invariant-loop-k

@@ -1,12 +1,10 @@
 -- `output::clear_beyond` meets its contract. The loop writes the places from the first beyond the layout on.
 use mathlib.Core.Path.{◌≡◌}
 use Prim.Native.Nat.{ℕ, ◌-◌, ◌*◌, ◌≤◌}
-use native.Mathlib.Omega.{arith}
 use lib.Ieee.{nan}
 use lib.ListN.{length}
 use Rattle.fill.specs.ByTurn.{ByTurn}
 use Rattle.mc_output.specs.Code.OutputByMix.{beyondAt}
-use Rattle.mc_output.specs.Laws.LayOut.{clearing-starts, clearing-more, clearing-ends}
 use Rattle.mc_output.proofs.output.clear_beyond.Given as goal
 
 abbrev pub invariant-loop-k : goal.invariant-loop-k

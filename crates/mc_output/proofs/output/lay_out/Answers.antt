@@ -1,7 +1,6 @@
 -- `output::lay_out` meets its contract.
 use mathlib.Core.Path.{sym, ap, ◌∙◌}
 use mathlib.Core.List.{List}
-use mathlib.Core.Logic.{⊎_elim}
 use lib.Ieee.{Float}
 use lib.ListN.{length}
 use Rattle.mc_output.specs.Code.OutputByMix.{withSecond, beyond}

@@ -1,6 +1,5 @@
 -- `output::main_at` meets its contract.
 use borrow.Author.Tests.{lt-ltb, le-ltb}
-use borrow.Author.Rules.{rules}
 use Rattle.mc_output.proofs.output.main_at.Goals as goal
 
 pub returns-then-j-x : goal.returns-then-j-x

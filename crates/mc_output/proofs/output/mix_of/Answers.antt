@@ -1,7 +1,6 @@
 -- `output::mix_of` meets its contract.
 use mathlib.Core.Path.{ap}
 use Rattle.mc_config.specs.declared.layout.Layout.{Layout}
-use borrow.Author.Rules.{rules}
 use Rattle.mc_output.proofs.output.mix_of.Goals as goal
 
 pub returns : goal.returns

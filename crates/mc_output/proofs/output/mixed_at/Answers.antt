@@ -1,5 +1,4 @@
 -- `output::mixed_at` meets its contract.
-use borrow.Author.Rules.{rules}
 use Rattle.mc_output.proofs.output.mixed_at.Goals as goal
 
 pub returns : goal.returns

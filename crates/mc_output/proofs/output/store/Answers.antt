@@ -1,9 +1,7 @@
 -- `output::store` meets its contract. The loop writes one place of each channel.
-use mathlib.Core.Logic.{⊎_elim}
 use Prim.Native.Nat.{◌-◌}
 use borrow.Author.Tests.{lt-ltb, le-ltb}
-use Rattle.mc_output.specs.Code.OutputByMix.{channelBy}
-use Rattle.mc_scale.specs.Laws.Strided.{Striding, stride-starts, stride-more, stride-ends}
+use Rattle.mc_scale.specs.Laws.Strided.{stride-starts, stride-more, stride-ends}
 use native.Mathlib.Omega.{arith}
 use Rattle.mc_output.proofs.output.store.Goals as goal
 use Rattle.mc_output.proofs.output.store.Goals.{then-ch-x, else-ch-x}

@@ -1,10 +1,8 @@
 -- `output::store_five` meets its contract. The loop writes one place of each channel.
 use mathlib.Core.Path.{refl}
-use Prim.Native.Nat.{ℕ, ◌-◌}
+use Prim.Native.Nat.{◌-◌}
 use native.Mathlib.Omega.{arith}
-use lib.Ieee.{nan}
-use lib.ListN.{get_or}
-use Rattle.mc_scale.specs.Laws.Strided.{Striding, stride-starts, stride-more, stride-ends}
+use Rattle.mc_scale.specs.Laws.Strided.{stride-starts, stride-more, stride-ends}
 use Rattle.mc_output.proofs.output.store_five.Goals as goal
 
 pub loop-ch-init : goal.loop-ch-init

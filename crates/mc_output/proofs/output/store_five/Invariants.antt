@@ -1,10 +1,8 @@
 -- `output::store_five` meets its contract. The loop writes one place of each channel.
-use mathlib.Core.Path.{refl}
 use Prim.Native.Nat.{ℕ, ◌-◌}
-use native.Mathlib.Omega.{arith}
 use lib.Ieee.{nan}
 use lib.ListN.{get_or}
-use Rattle.mc_scale.specs.Laws.Strided.{Striding, stride-starts, stride-more, stride-ends}
+use Rattle.mc_scale.specs.Laws.Strided.{Striding}
 use Rattle.mc_output.proofs.output.store_five.Given as goal
 
 abbrev pub invariant-loop-ch : goal.invariant-loop-ch

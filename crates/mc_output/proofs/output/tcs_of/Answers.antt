@@ -1,9 +1,7 @@
 -- `output::tcs_of` meets its contract. The loop fills the table in order.
-use Prim.Native.Nat.{ℕ, ◌-◌}
-use lib.ListN.{get_or}
+use Prim.Native.Nat.{◌-◌}
 use borrow.Author.Rules.{rules}
-use Rattle.fill.specs.InOrder.{Filling, starts, more, ends-all}
-use Rattle.mc_config.specs.Groups.{sbgrOf}
+use Rattle.fill.specs.InOrder.{starts, more, ends-all}
 use Rattle.mc_config.specs.GroupsLaws.{sbgr-below}
 use Rattle.mc_output.specs.Code.OutputByMix.{tcsOf}
 use native.Mathlib.Omega.{arith}

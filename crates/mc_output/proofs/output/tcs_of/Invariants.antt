@@ -1,12 +1,8 @@
 -- `output::tcs_of` meets its contract. The loop fills the table in order.
 use Prim.Native.Nat.{ℕ, ◌-◌}
 use lib.ListN.{get_or}
-use borrow.Author.Rules.{rules}
-use Rattle.fill.specs.InOrder.{Filling, starts, more, ends-all}
+use Rattle.fill.specs.InOrder.{Filling}
 use Rattle.mc_config.specs.Groups.{sbgrOf}
-use Rattle.mc_config.specs.GroupsLaws.{sbgr-below}
-use Rattle.mc_output.specs.Code.OutputByMix.{tcsOf}
-use native.Mathlib.Omega.{arith}
 use Rattle.mc_output.proofs.output.tcs_of.Given as goal
 
 abbrev pub invariant-loop-sb : goal.invariant-loop-sb

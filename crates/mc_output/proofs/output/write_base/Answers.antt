@@ -1,10 +1,9 @@
 -- `output::write_base` meets its contract. The loop writes all channels of one slot and subband a turn.
 use mathlib.Core.Path.{◌∙◌}
-use Prim.Native.Nat.{ℕ, ◌-◌, ◌%◌, ◌≤◌}
-use lib.Ieee.{nan}
+use Prim.Native.Nat.{◌-◌}
 use Rattle.fill.specs.TabLaws.{all-filled}
-use Rattle.fill.specs.ByTurn.{ByTurn, turn-starts, turn-ends}
-use Rattle.mc_output.specs.Code.OutputByMix.{baseAloneAt, baseAlone}
+use Rattle.fill.specs.ByTurn.{turn-starts, turn-ends}
+use Rattle.mc_output.specs.Code.OutputByMix.{baseAlone}
 use Rattle.mc_output.specs.Laws.OutputByMix.{turn-across}
 use Rattle.mc_output.specs.Laws.BaseAlone.{base-value}
 use native.Mathlib.Omega.{arith}

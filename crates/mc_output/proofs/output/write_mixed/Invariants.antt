@@ -1,12 +1,8 @@
 -- `output::write_mixed` meets its contract. The loop writes all channels of one slot and subband a turn.
-use mathlib.Core.Path.{◌∙◌}
 use Prim.Native.Nat.{ℕ, ◌-◌, ◌%◌, ◌≤◌}
 use lib.Ieee.{nan}
-use Rattle.fill.specs.TabLaws.{all-filled}
-use Rattle.fill.specs.ByTurn.{ByTurn, turn-starts, turn-ends}
-use Rattle.mc_output.specs.Code.OutputByMix.{mixedOfAt, mixedOf}
-use Rattle.mc_output.specs.Laws.OutputByMix.{turn-across, mixed-value}
-use native.Mathlib.Omega.{arith}
+use Rattle.fill.specs.ByTurn.{ByTurn}
+use Rattle.mc_output.specs.Code.OutputByMix.{mixedOfAt}
 use Rattle.mc_output.proofs.output.write_mixed.Given as goal
 
 abbrev pub invariant-loop-j : goal.invariant-loop-j

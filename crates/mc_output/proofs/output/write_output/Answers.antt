@@ -9,7 +9,6 @@ use Rattle.mc_payload.specs.Places.{config}
 use Rattle.mc_output.specs.Laws.LayOut.{mixed-all, laid_out}
 use Rattle.mc_output.specs.Laws.OutputByMix.{second_fits, output-written}
 use Rattle.mc_output.specs.Laws.BaseAlone.{alone-written}
-use borrow.Author.Rules.{rules}
 use Rattle.mc_output.proofs.output.write_output.Goals as goal
 
 pub write_base-requires : goal.write_base-requires

@@ -1,12 +1,7 @@
 -- `output::write_second` meets its contract. The loop writes the last two channels, place by place.
-use mathlib.Core.Path.{◌≡◌}
-use mathlib.Core.Logic.{⊎_elim}
-use Prim.Native.Nat.{ℕ, ◌+◌, ◌-◌, ◌*◌, ◌≤◌}
+use Prim.Native.Nat.{◌-◌}
 use native.Mathlib.Omega.{arith}
-use lib.Ieee.{nan}
-use lib.ListN.{length}
-use Rattle.fill.specs.ByTurn.{ByTurn}
-use Rattle.mc_output.specs.Code.OutputByMix.{withSecondAt, withSecond}
+use Rattle.mc_output.specs.Code.OutputByMix.{withSecond}
 use Rattle.mc_output.specs.Laws.LayOut.{laying-starts, laying-more, laying-skip, laying-ends}
 use Rattle.mc_output.proofs.output.write_second.Goals as goal
 use Rattle.mc_output.proofs.output.write_second.Goals.{then-i-limit, else-i-limit}

@@ -2,10 +2,8 @@
 use mathlib.Core.Path.{refl}
 use Prim.Native.Nat.{◌-◌}
 use native.Mathlib.Omega.{arith}
-use borrow.Author.Rules.{rules}
-use Rattle.fill.specs.InOrder.{Filling, starts, more, ends-all}
-use Rattle.mc_payload.specs.Places.{place}
-use Rattle.mc_places.specs.PlacesBy.{carriedBy, groupAt, stepsBy, ownBy, places_by}
+use Rattle.fill.specs.InOrder.{starts, more, ends-all}
+use Rattle.mc_places.specs.PlacesBy.{places_by}
 use Rattle.mc_places.proofs.PlacesBuilt.{group-small, group-place, steps-place, own-place}
 use Rattle.mc_places.proofs.places.by_place.Goals as goal
 

@@ -1,12 +1,8 @@
 -- `places::by_place` meets its contract.
-use mathlib.Core.Path.{refl}
 use Prim.Native.Nat.{◌-◌}
-use native.Mathlib.Omega.{arith}
-use borrow.Author.Rules.{rules}
-use Rattle.fill.specs.InOrder.{Filling, starts, more, ends-all}
+use Rattle.fill.specs.InOrder.{Filling}
 use Rattle.mc_payload.specs.Places.{place}
-use Rattle.mc_places.specs.PlacesBy.{carriedBy, groupAt, stepsBy, ownBy, places_by}
-use Rattle.mc_places.proofs.PlacesBuilt.{group-small, group-place, steps-place, own-place}
+use Rattle.mc_places.specs.PlacesBy.{carriedBy, groupAt, stepsBy, ownBy}
 use Rattle.mc_places.proofs.places.by_place.Given as goal
 
 abbrev pub invariant-loop-i : goal.invariant-loop-i

@@ -1,6 +1,5 @@
 -- `places::carried` meets its contract.
 use mathlib.Core.Path.{refl}
-use borrow.Author.Rules.{rules}
 use Rattle.mc_places.specs.PlacesBy.{carriedBy}
 use Rattle.mc_places.proofs.places.carried.Goals as goal
 

@@ -1,13 +1,8 @@
 -- `places::group_bases` meets its contract.
-use mathlib.Core.Path.{refl}
 use Prim.Native.Nat.{◌-◌, ◌/◌, ◌%◌}
-use native.Mathlib.Omega.{arith}
 use lib.ListN.{get_or}
-use borrow.Author.Rules.{rules}
-use Rattle.fill.specs.InOrder.{Filling, starts, more, ends-all}
+use Rattle.fill.specs.InOrder.{Filling}
 use Rattle.mc_roles.specs.Roles.{base_of}
-use Rattle.mc_places.specs.PlacesBy.{groupBases}
-use Rattle.mc_places.proofs.PlacesBuilt.{base-fits}
 use Rattle.mc_places.proofs.places.group_bases.Given as goal
 
 abbrev pub invariant-loop-k : goal.invariant-loop-k

@@ -1,11 +1,10 @@
 -- `places::group_sources` meets its contract.
 use mathlib.Core.Path.{refl}
-use Prim.Native.Nat.{◌-◌, ◌/◌, ◌%◌}
+use Prim.Native.Nat.{◌-◌}
 use native.Mathlib.Omega.{arith}
 use borrow.Author.Rules.{rules}
-use Rattle.fill.specs.InOrder.{Filling, starts, more, ends-all}
-use Rattle.mc_fields.specs.Head.{modeAt, secondAt}
-use Rattle.mc_places.specs.PlacesBy.{sourceBy, groupSources}
+use Rattle.fill.specs.InOrder.{starts, more, ends-all}
+use Rattle.mc_places.specs.PlacesBy.{groupSources}
 use Rattle.mc_places.proofs.places.group_sources.Goals as goal
 
 pub loop-k-init : goal.loop-k-init

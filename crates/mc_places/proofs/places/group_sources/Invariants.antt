@@ -1,11 +1,8 @@
 -- `places::group_sources` meets its contract.
-use mathlib.Core.Path.{refl}
 use Prim.Native.Nat.{◌-◌, ◌/◌, ◌%◌}
-use native.Mathlib.Omega.{arith}
-use borrow.Author.Rules.{rules}
-use Rattle.fill.specs.InOrder.{Filling, starts, more, ends-all}
+use Rattle.fill.specs.InOrder.{Filling}
 use Rattle.mc_fields.specs.Head.{modeAt, secondAt}
-use Rattle.mc_places.specs.PlacesBy.{sourceBy, groupSources}
+use Rattle.mc_places.specs.PlacesBy.{sourceBy}
 use Rattle.mc_places.proofs.places.group_sources.Given as goal
 
 abbrev pub invariant-loop-k : goal.invariant-loop-k

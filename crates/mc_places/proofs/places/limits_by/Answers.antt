@@ -1,5 +1,4 @@
 -- `places::limits_by` meets its contract.
-use borrow.Author.Rules.{rules}
 use Rattle.fill.specs.Tab.{tab}
 use Rattle.mc_places.specs.PlacesBy.{limitsBy}
 use Rattle.mc_places.proofs.places.limits_by.Goals as goal

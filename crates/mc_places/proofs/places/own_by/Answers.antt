@@ -1,6 +1,5 @@
 -- `places::own_by` meets its contract.
 use borrow.Author.Tests.{not-true, not-false}
-use borrow.Author.Rules.{rules}
 use Rattle.mc_places.proofs.PlacesBuilt.{own-none, own-copied, own-sent}
 use Rattle.mc_places.proofs.places.own_by.Goals as goal
 

@@ -1,7 +1,6 @@
 -- `roles::base_of` meets its contract.
 use mathlib.Core.Path.{◌∙◌, ap}
 use borrow.Author.Tests.{ne_eqb}
-use borrow.Author.Rules.{rules}
 use lib.ListN.{get_or}
 use Rattle.mc_config.specs.Config.{left}
 use Rattle.mc_config.specs.RecordsLaws.{padded-at}

@@ -1,7 +1,6 @@
 -- `roles::roles_in` meets its contract.
 use mathlib.Core.Path.{refl}
 use borrow.Author.Tests.{lt-ltb, le-ltb}
-use borrow.Author.Rules.{rules}
 use lib.ListN.{length}
 use Rattle.mc_roles.proofs.roles.roles_in.Goals as goal
 

@@ -2,7 +2,6 @@
 use mathlib.Core.Path.{◌≡◌, sym, ◌∙◌}
 use mathlib.Core.List.{map}
 use Prim.Native.Nat.{ℕ, ◌<◌}
-use borrow.Author.Rules.{rules}
 use lib.Dec.{lit<}
 use lib.ListN.{length}
 use Rattle.mc_config.specs.CaseLaws.{other}

@@ -1,6 +1,5 @@
 -- `samples::lfe_value` meets its contract.
 use borrow.Author.Tests.{ne_eqb}
-use borrow.Author.Rules.{rules}
 use Rattle.mc_values.specs.Values.{lfeBy}
 use Rattle.mc_samples.proofs.samples.lfe_value.Goals as goal
 

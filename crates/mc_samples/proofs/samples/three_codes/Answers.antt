@@ -1,5 +1,4 @@
 -- `samples::three_codes` meets its contract.
-use borrow.Author.Rules.{rules}
 use Rattle.mc_values.specs.Values.{threeCodes}
 use Rattle.mc_samples.proofs.samples.three_codes.Goals as goal
 

@@ -1,9 +1,8 @@
 -- `samples::write_lfe` meets its contract.
-use Prim.Native.Nat.{◌-◌, ◌*◌}
+use Prim.Native.Nat.{◌-◌}
 use native.Mathlib.Omega.{arith}
-use lib.ListN.{get_or}
-use Rattle.fill.specs.InOrder.{Filling, starts, more, ends-all}
-use Rattle.mc_values.specs.Values.{lfeBy, lfeFrom}
+use Rattle.fill.specs.InOrder.{starts, more, ends-all}
+use Rattle.mc_values.specs.Values.{lfeFrom}
 use Rattle.mc_samples.proofs.samples.write_lfe.Goals as goal
 
 pub loop-gr-init : goal.loop-gr-init

@@ -1,9 +1,8 @@
 -- `samples::write_lfe` meets its contract.
 use Prim.Native.Nat.{◌-◌, ◌*◌}
-use native.Mathlib.Omega.{arith}
 use lib.ListN.{get_or}
-use Rattle.fill.specs.InOrder.{Filling, starts, more, ends-all}
-use Rattle.mc_values.specs.Values.{lfeBy, lfeFrom}
+use Rattle.fill.specs.InOrder.{Filling}
+use Rattle.mc_values.specs.Values.{lfeBy}
 use Rattle.mc_samples.proofs.samples.write_lfe.Given as goal
 
 abbrev pub invariant-loop-gr : goal.invariant-loop-gr

@@ -1,10 +1,8 @@
 -- `samples::write_place` meets its contract.
 use mathlib.Core.Path.{◌≡◌, sym, ◌∙◌}
-use Prim.Native.Nat.{◌-◌, ◌+◌, ◌*◌, ◌/◌, ◌%◌, ◌≤◌}
+use Prim.Native.Nat.{◌-◌, ◌*◌}
 use native.Mathlib.Omega.{arith}
-use lib.ListN.{length, length-set}
-use borrow.Author.Rules.{rules}
-use Rattle.mc_values.specs.Values.{rawBy, spread}
+use lib.ListN.{length-set}
 use Rattle.mc_values.specs.ValuesLaws.{values-fit, spread_none}
 use Rattle.mc_samples.proofs.SamplesWritten.{index-small, class-found, place-next}
 use Rattle.mc_samples.proofs.samples.write_place.Goals as goal

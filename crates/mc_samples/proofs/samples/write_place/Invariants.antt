@@ -1,12 +1,8 @@
 -- `samples::write_place` meets its contract.
-use mathlib.Core.Path.{◌≡◌, sym, ◌∙◌}
+use mathlib.Core.Path.{◌≡◌}
 use Prim.Native.Nat.{◌-◌, ◌+◌, ◌*◌, ◌/◌, ◌%◌, ◌≤◌}
-use native.Mathlib.Omega.{arith}
-use lib.ListN.{length, length-set}
-use borrow.Author.Rules.{rules}
+use lib.ListN.{length}
 use Rattle.mc_values.specs.Values.{rawBy, spread}
-use Rattle.mc_values.specs.ValuesLaws.{values-fit, spread_none}
-use Rattle.mc_samples.proofs.SamplesWritten.{index-small, class-found, place-next}
 use Rattle.mc_samples.proofs.samples.write_place.Given as goal
 
 abbrev pub invariant-loop-gr : goal.invariant-loop-gr

@@ -1,10 +1,8 @@
 -- `samples::write_raw` meets its contract.
 use mathlib.Core.Path.{sym, ◌∙◌}
-use mathlib.Core.Logic.{⊎_elim}
-use Prim.Native.Nat.{◌-◌, ◌≤◌}
+use Prim.Native.Nat.{◌-◌}
 use native.Mathlib.Omega.{arith}
-use borrow.Author.Rules.{rules}
-use Rattle.mc_samples.proofs.SamplesWritten.{Written, own-fits, written_none, written-skip, written-place, written_all}
+use Rattle.mc_samples.proofs.SamplesWritten.{own-fits, written_none, written-skip, written-place, written_all}
 use Rattle.mc_samples.proofs.samples.write_raw.Goals as goal
 use Rattle.mc_samples.proofs.samples.write_raw.Goals.{then-n-ne0, else-n-ne0}
 

@@ -1,5 +1,4 @@
 -- `mc_state::McDecodeState::carry` meets its contract.
-use borrow.Author.Rules.{rules}
 use Rattle.mc_state.specs.CarryLaws.{carry-refused, carry-taken}
 use Rattle.mc_state.proofs.McDecodeState.carry.Reads as reads
 use Rattle.mc_state.proofs.McDecodeState.carry.Lts as lts

@@ -1,11 +1,8 @@
 -- `mc_state::convert::history_of` meets its contract.
 use mathlib.Core.Path.{refl, ◌∙◌}
-use Prim.Native.Nat.{ℕ, ◌-◌}
+use Prim.Native.Nat.{◌-◌}
 use native.Mathlib.Omega.{arith}
-use lib.Ieee.{nan}
-use lib.ListN.{get_or}
-use borrow.Author.Rules.{rules}
-use Rattle.fill.specs.InOrder.{Filling, starts, more, ends-all}
+use Rattle.fill.specs.InOrder.{starts, more, ends-all}
 use Rattle.mc_state.specs.CarryLaws.{tab-list}
 use Rattle.mc_state.proofs.convert.history_of.Goals as goal
 

@@ -1,12 +1,8 @@
 -- `mc_state::convert::history_of` meets its contract.
-use mathlib.Core.Path.{refl, ◌∙◌}
 use Prim.Native.Nat.{ℕ, ◌-◌}
-use native.Mathlib.Omega.{arith}
 use lib.Ieee.{nan}
 use lib.ListN.{get_or}
-use borrow.Author.Rules.{rules}
-use Rattle.fill.specs.InOrder.{Filling, starts, more, ends-all}
-use Rattle.mc_state.specs.CarryLaws.{tab-list}
+use Rattle.fill.specs.InOrder.{Filling}
 use Rattle.mc_state.proofs.convert.history_of.Given as goal
 
 abbrev pub invariant-loop-k : goal.invariant-loop-k

@@ -1,6 +1,5 @@
 -- `mc_state::desk::one_more` meets its contract.
 use borrow.Author.Tests.{lt-ltb, le-ltb}
-use borrow.Author.Rules.{rules}
 use Rattle.mc_state.proofs.desk.one_more.Goals as goal
 
 pub returns-then-tally-lt4294967295 : goal.returns-then-tally-lt4294967295

@@ -1,5 +1,4 @@
 -- `mc_state::desk::tallied` meets its contract.
-use borrow.Author.Rules.{rules}
 use Rattle.mc_state.proofs.desk.tallied.Goals as goal
 
 pub returns : goal.returns

@@ -1,9 +1,6 @@
 -- `mc_status::status::first_forbidden` meets its contract.
-use mathlib.Core.Path.{◌≡◌}
-use Prim.Native.Nat.{◌-◌, ◌≤◌}
+use Prim.Native.Nat.{◌-◌}
 use native.Mathlib.Omega.{arith}
-use borrow.Author.Rules.{rules}
-use Rattle.mc_fields.specs.Head.{firstForbidden}
 use Rattle.mc_status.proofs.StatusWalk.{forbidden-next, forbidden-here, forbidden-none}
 use Rattle.mc_status.proofs.status.first_forbidden.Goals as goal
 

@@ -1,10 +1,7 @@
 -- `mc_status::status::first_forbidden` meets its contract.
 use mathlib.Core.Path.{◌≡◌}
 use Prim.Native.Nat.{◌-◌, ◌≤◌}
-use native.Mathlib.Omega.{arith}
-use borrow.Author.Rules.{rules}
 use Rattle.mc_fields.specs.Head.{firstForbidden}
-use Rattle.mc_status.proofs.StatusWalk.{forbidden-next, forbidden-here, forbidden-none}
 use Rattle.mc_status.proofs.status.first_forbidden.Given as goal
 
 abbrev pub invariant-loop-g : goal.invariant-loop-g

@@ -1,5 +1,4 @@
 -- `mc_status::status::predictors_if` meets its contract.
-use borrow.Author.Rules.{rules}
 use Rattle.mc_status.proofs.status.predictors_if.Goals as goal
 
 pub returns-then-flag : goal.returns-then-flag

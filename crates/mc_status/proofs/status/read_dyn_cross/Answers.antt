@@ -1,12 +1,9 @@
 -- `mc_status::status::read_dyn_cross` meets its contract.
-use mathlib.Core.Path.{◌≡◌}
-use Prim.Native.Nat.{◌-◌, ◌≤◌}
+use Prim.Native.Nat.{◌-◌}
 use native.Mathlib.Omega.{arith}
 use borrow.Author.Rules.{rules}
-use Rattle.bits.specs.Syntax.{times}
-use Rattle.cursor.specs.Cursor.{run_from}
 use Rattle.cursor.specs.CursorLaws.{cur-fits}
-use Rattle.mc_fields.specs.Head.{dynCrossAt, dynCross}
+use Rattle.mc_fields.specs.Head.{dynCross}
 use Rattle.mc_status.proofs.StatusWalk.{cross-next, cross-ran}
 use Rattle.mc_status.proofs.status.read_dyn_cross.Goals as goal
 

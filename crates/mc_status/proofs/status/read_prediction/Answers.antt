@@ -1,13 +1,9 @@
 -- `mc_status::status::read_prediction` meets its contract.
-use mathlib.Core.Path.{◌≡◌}
-use Prim.Native.Nat.{ℕ, ◌-◌, ◌≤◌}
+use Prim.Native.Nat.{◌-◌, ◌≤◌}
 use native.Mathlib.Omega.{arith}
 use borrow.Author.Rules.{rules}
 use lib.Dec.{lit≤}
-use Rattle.bits.specs.Syntax.{times}
-use Rattle.cursor.specs.Cursor.{run_from}
-use Rattle.mc_crosstalk.specs.Crosstalk.{predictorsOf}
-use Rattle.mc_fields.specs.Head.{modeAt, predictionAt, prediction}
+use Rattle.mc_fields.specs.Head.{prediction}
 use Rattle.mc_fields.specs.FieldLaws.{bits-if-most, if-fits}
 use Rattle.mc_status.proofs.StatusWalk.{predictors-if-most, prediction-next, prediction-ran}
 use Rattle.mc_status.proofs.status.read_prediction.Goals as goal

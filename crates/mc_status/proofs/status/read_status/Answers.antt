@@ -1,5 +1,4 @@
 -- `mc_status::status::read_status` meets its contract.
-use borrow.Author.Rules.{rules}
 use lib.Dec.{lit≤}
 use Rattle.mc_fields.specs.FieldLaws.{bits-if-most}
 use Rattle.mc_status.proofs.StatusWalk.{status-read}

@@ -1,14 +1,10 @@
 -- `mc_status::status::read_tc_allocation` meets its contract.
 use mathlib.Core.Path.{◌≡◌}
 use Prim.Native.Nat.{◌-◌, ◌≤◌}
-use native.Mathlib.Omega.{arith}
-use borrow.Author.Rules.{rules}
 use lib.ListN.{replicate}
 use Rattle.bits.specs.Syntax.{times}
 use Rattle.cursor.specs.Cursor.{run_from}
-use Rattle.cursor.specs.CursorLaws.{cur-fits}
 use Rattle.mc_fields.specs.Head.{tcAt}
-use Rattle.mc_status.proofs.StatusWalk.{tc-once, tc-each, tc-next}
 use Rattle.mc_status.proofs.status.read_tc_allocation.Given as goal
 
 abbrev pub invariant-loop-g : goal.invariant-loop-g

@@ -1,5 +1,4 @@
 -- `entry::decide` meets its contract.
-use borrow.Author.Rules.{rules}
 use Rattle.mc_unpack.proofs.EntryDecided.{decided-raw, decided-lfe, decided-string, decided-loan, lfe-most, decided-read}
 use Rattle.mc_unpack.proofs.entry.decide.Goals as goal
 

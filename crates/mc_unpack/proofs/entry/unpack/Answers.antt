@@ -1,5 +1,4 @@
 -- `entry::unpack` meets its contract.
-use borrow.Author.Rules.{rules}
 use Rattle.mc_payload.specs.Unpack.{loanBy}
 use Rattle.mc_unpack.proofs.EntryAnswer.{refused-number, refused-after, writers-ready, accepted-after}
 use Rattle.mc_unpack.proofs.entry.unpack.Goals as goal

@@ -1,6 +1,5 @@
 -- `values::coef_by` meets its contract.
 use borrow.Author.Tests.{lt-ltb, le-ltb}
-use borrow.Author.Rules.{rules}
 use Rattle.mc_values.specs.Values.{coefBy}
 use Rattle.mc_values.proofs.values.coef_by.Goals as goal
 

@@ -2,9 +2,8 @@
 use mathlib.Core.Path.{refl}
 use Prim.Native.Nat.{◌-◌}
 use native.Mathlib.Omega.{arith}
-use borrow.Author.Rules.{rules}
-use Rattle.fill.specs.InOrder.{Filling, starts, more, ends-all}
-use Rattle.mc_values.specs.Values.{coefsIn, coefsFrom}
+use Rattle.fill.specs.InOrder.{starts, more, ends-all}
+use Rattle.mc_values.specs.Values.{coefsFrom}
 use Rattle.mc_values.proofs.values.coefs.Goals as goal
 
 pub loop-g-init : goal.loop-g-init

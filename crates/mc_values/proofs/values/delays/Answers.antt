@@ -2,9 +2,8 @@
 use mathlib.Core.Path.{refl}
 use Prim.Native.Nat.{◌-◌}
 use native.Mathlib.Omega.{arith}
-use borrow.Author.Rules.{rules}
-use Rattle.fill.specs.InOrder.{Filling, starts, more, ends-all}
-use Rattle.mc_values.specs.Values.{delaysIn, delaysFrom}
+use Rattle.fill.specs.InOrder.{starts, more, ends-all}
+use Rattle.mc_values.specs.Values.{delaysFrom}
 use Rattle.mc_values.proofs.values.delays.Goals as goal
 
 pub loop-g-init : goal.loop-g-init

@@ -1,10 +1,7 @@
 -- `values::delays` meets its contract.
-use mathlib.Core.Path.{refl}
 use Prim.Native.Nat.{◌-◌}
-use native.Mathlib.Omega.{arith}
-use borrow.Author.Rules.{rules}
-use Rattle.fill.specs.InOrder.{Filling, starts, more, ends-all}
-use Rattle.mc_values.specs.Values.{delaysIn, delaysFrom}
+use Rattle.fill.specs.InOrder.{Filling}
+use Rattle.mc_values.specs.Values.{delaysIn}
 use Rattle.mc_values.proofs.values.delays.Given as goal
 
 abbrev pub invariant-loop-g : goal.invariant-loop-g

@@ -1,12 +1,9 @@
 -- `values::group_coefs` meets its contract.
-use mathlib.Core.Path.{refl}
 use Prim.Native.Nat.{◌-◌, ◌+◌, ◌*◌}
-use native.Mathlib.Omega.{arith}
-use borrow.Author.Rules.{rules}
-use Rattle.fill.specs.InOrder.{Filling, starts, more, ends-all}
+use Rattle.fill.specs.InOrder.{Filling}
 use Rattle.fill.specs.Tab.{tab}
 use Rattle.mc_fields.specs.Head.{countAt}
-use Rattle.mc_values.specs.Values.{coefBy, coefsIn}
+use Rattle.mc_values.specs.Values.{coefBy}
 use Rattle.mc_values.proofs.values.group_coefs.Given as goal
 
 abbrev pub invariant-loop-px : goal.invariant-loop-px

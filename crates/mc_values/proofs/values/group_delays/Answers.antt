@@ -1,10 +1,8 @@
 -- `values::group_delays` meets its contract.
 use mathlib.Core.Path.{refl}
-use Prim.Native.Nat.{◌-◌, ◌+◌, ◌*◌}
+use Prim.Native.Nat.{◌-◌}
 use native.Mathlib.Omega.{arith}
-use lib.ListN.{get_or}
-use borrow.Author.Rules.{rules}
-use Rattle.fill.specs.InOrder.{Filling, starts, more, ends-all}
+use Rattle.fill.specs.InOrder.{starts, more, ends-all}
 use Rattle.mc_values.specs.Values.{delaysIn}
 use Rattle.mc_values.proofs.values.group_delays.Goals as goal
 

@@ -1,11 +1,7 @@
 -- `values::group_delays` meets its contract.
-use mathlib.Core.Path.{refl}
 use Prim.Native.Nat.{◌-◌, ◌+◌, ◌*◌}
-use native.Mathlib.Omega.{arith}
 use lib.ListN.{get_or}
-use borrow.Author.Rules.{rules}
-use Rattle.fill.specs.InOrder.{Filling, starts, more, ends-all}
-use Rattle.mc_values.specs.Values.{delaysIn}
+use Rattle.fill.specs.InOrder.{Filling}
 use Rattle.mc_values.proofs.values.group_delays.Given as goal
 
 abbrev pub invariant-loop-px : goal.invariant-loop-px

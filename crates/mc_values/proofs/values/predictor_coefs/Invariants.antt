@@ -1,9 +1,6 @@
 -- `values::predictor_coefs` meets its contract.
-use mathlib.Core.Path.{refl}
 use Prim.Native.Nat.{◌-◌}
-use native.Mathlib.Omega.{arith}
-use borrow.Author.Rules.{rules}
-use Rattle.fill.specs.InOrder.{Filling, starts, more, ends-all}
+use Rattle.fill.specs.InOrder.{Filling}
 use Rattle.mc_values.specs.Values.{coefBy}
 use Rattle.mc_values.proofs.values.predictor_coefs.Given as goal
 

@@ -1,13 +1,9 @@
 -- `part_tables::tables::write_coefs` meets its contract.
-use mathlib.Core.Path.{refl, ◌∙◌}
 use mathlib.Core.List.{[]}
 use Prim.Native.Nat.{ℕ, ◌-◌, ◌/◌, ◌%◌}
-use native.Mathlib.Omega.{arith}
-use Rattle.fill.specs.InOrder.{Filling, starts, more, ends-all}
+use Rattle.fill.specs.InOrder.{Filling}
 use lib.Ieee.{nan}
 use lib.ListN.{get_or}
-use Rattle.part_tables.specs.Payload.{flatCoefs}
-use borrow.Author.Rules.{rules}
 use Rattle.part_tables.proofs.pack.write_coefs.Given as goal
 
 abbrev pub invariant-loop-k : goal.invariant-loop-k

@@ -1,12 +1,9 @@
 -- `part_tables::tables::write_delays` meets its contract.
 use mathlib.Core.Path.{refl, ◌∙◌}
-use mathlib.Core.List.{[]}
-use Prim.Native.Nat.{ℕ, ◌-◌, ◌/◌, ◌%◌}
+use Prim.Native.Nat.{◌-◌}
 use native.Mathlib.Omega.{arith}
-use Rattle.fill.specs.InOrder.{Filling, starts, more, ends-all}
-use lib.ListN.{get_or}
+use Rattle.fill.specs.InOrder.{starts, more, ends-all}
 use Rattle.part_tables.specs.Payload.{flatDelays}
-use borrow.Author.Rules.{rules}
 use Rattle.part_tables.proofs.pack.write_delays.Goals as goal
 
 pub loop-k-init : goal.loop-k-init

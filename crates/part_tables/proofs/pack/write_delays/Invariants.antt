@@ -1,12 +1,8 @@
 -- `part_tables::tables::write_delays` meets its contract.
-use mathlib.Core.Path.{refl, ◌∙◌}
 use mathlib.Core.List.{[]}
 use Prim.Native.Nat.{ℕ, ◌-◌, ◌/◌, ◌%◌}
-use native.Mathlib.Omega.{arith}
-use Rattle.fill.specs.InOrder.{Filling, starts, more, ends-all}
+use Rattle.fill.specs.InOrder.{Filling}
 use lib.ListN.{get_or}
-use Rattle.part_tables.specs.Payload.{flatDelays}
-use borrow.Author.Rules.{rules}
 use Rattle.part_tables.proofs.pack.write_delays.Given as goal
 
 abbrev pub invariant-loop-k : goal.invariant-loop-k

@@ -1,10 +1,7 @@
 -- `part_tables::tables::write_scalefactors` meets its contract.
-use mathlib.Core.Path.{refl}
 use Prim.Native.Nat.{ℕ, ◌-◌}
-use native.Mathlib.Omega.{arith}
-use Rattle.fill.specs.InOrder.{Filling, starts, more, ends-all}
+use Rattle.fill.specs.InOrder.{Filling}
 use lib.ListN.{get_or}
-use Rattle.part_tables.specs.Payload.{entries}
 use Rattle.part_tables.proofs.pack.write_scalefactors.Given as goal
 
 abbrev pub invariant-loop-k : goal.invariant-loop-k

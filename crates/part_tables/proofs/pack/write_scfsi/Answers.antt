@@ -1,9 +1,8 @@
 -- `part_tables::tables::write_scfsi` meets its contract.
 use mathlib.Core.Path.{refl}
-use Prim.Native.Nat.{ℕ, ◌-◌}
+use Prim.Native.Nat.{◌-◌}
 use native.Mathlib.Omega.{arith}
-use Rattle.fill.specs.InOrder.{Filling, starts, more, ends-all}
-use lib.ListN.{get_or}
+use Rattle.fill.specs.InOrder.{starts, more, ends-all}
 use Rattle.part_tables.specs.Payload.{entries}
 use Rattle.part_tables.proofs.pack.write_scfsi.Goals as goal
 

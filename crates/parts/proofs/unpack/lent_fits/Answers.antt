@@ -2,7 +2,6 @@
 use mathlib.Core.Path.{◌≡◌}
 use mathlib.Core.Bool.{Bool, ◌&&◌}
 use Rattle.part_tables.specs.Payload.{lent_by}
-use borrow.Author.Rules.{rules}
 use Rattle.parts.proofs.unpack.lent_fits.Goals as goal
 
 joined : {a b c d a' b' c' d' : Bool} → a ≡ a' → b ≡ b' → c ≡ c' → d ≡ d' → a && (b && (c && d)) ≡ a' && (b' && (c' && d'))

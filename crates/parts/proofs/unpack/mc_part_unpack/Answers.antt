@@ -3,7 +3,6 @@ use mathlib.Core.Path.{ap}
 use mathlib.Core.Bool.{not}
 use Rattle.part_tables.specs.Payload.{lent_of, buffersFrom}
 use Rattle.part_tables.specs.PayloadLaws.{after-lent, long, after-head, after-payload}
-use borrow.Author.Rules.{rules}
 use Rattle.parts.proofs.unpack.mc_part_unpack.Goals as goal
 
 pub returns-then-not-lent_fits : goal.returns-then-not-lent_fits

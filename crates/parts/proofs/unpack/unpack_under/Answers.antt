@@ -2,7 +2,6 @@
 use mathlib.Core.Path.{refl}
 use Rattle.mc_payload.specs.Unpack.{loanBy}
 use Rattle.part_tables.specs.PayloadLaws.{left_by}
-use borrow.Author.Rules.{rules}
 use Rattle.parts.proofs.unpack.unpack_under.Goals as goal
 
 pub returns : goal.returns

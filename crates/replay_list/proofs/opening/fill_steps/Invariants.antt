@@ -1,8 +1,7 @@
 -- `replay_list::opening::fill_steps` meets its contract. The loop fills the step counts in order.
-use Rattle.std.proofs.Common.{◌+◌, ◌-◌, length, get_or, ap, ◌∙◌, arith, rules}
-use Rattle.fill.specs.InOrder.{Filling, starts, more}
+use Rattle.std.proofs.Common.{◌+◌, ◌-◌, length, get_or}
+use Rattle.fill.specs.InOrder.{Filling}
 use Rattle.replay_list.specs.Opening.{stepsOf}
-use Rattle.replay_list.specs.OpeningLaws.{steps_all}
 use Rattle.replay_list.proofs.opening.fill_steps.Given as goal
 
 abbrev pub invariant-loop-k : goal.invariant-loop-k

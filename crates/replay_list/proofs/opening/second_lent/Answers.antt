@@ -1,5 +1,5 @@
 -- `replay_list::opening::second_lent` meets its contract.
-use Rattle.std.proofs.Common.{arith, rules}
+use Rattle.std.proofs.Common.{arith}
 use Rattle.replay_list.specs.OpeningLaws.{second-all, second_none}
 use Rattle.replay_list.proofs.opening.second_lent.Goals as goal
 

@@ -1,6 +1,5 @@
 -- `replay_list::outcome::hash_state` meets its contract.
 use Rattle.replay_list.specs.Outcome.{stateHash}
-use Rattle.std.proofs.Common.{rules}
 use Rattle.replay_list.proofs.outcome.hash_state.Goals as goal
 
 pub returns : goal.returns

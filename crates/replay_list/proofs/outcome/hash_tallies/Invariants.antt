@@ -1,7 +1,6 @@
 -- `replay_list::outcome::hash_tallies` meets its contract.
-use Rattle.std.proofs.Common.{◌≡◌, ◌-◌, ◌≤◌, arith, rules}
+use Rattle.std.proofs.Common.{◌≡◌, ◌-◌, ◌≤◌}
 use Rattle.replay_list.specs.Outcome.{hashNumbers}
-use Rattle.replay_list.specs.OutcomeLaws.{numbers-none, numbers_more, numbers-all}
 use Rattle.replay_list.proofs.outcome.hash_tallies.Given as goal
 
 abbrev pub invariant-loop-k : goal.invariant-loop-k

@@ -1,5 +1,4 @@
 -- `replay_list::outcome::listed` meets its contract.
-use Rattle.std.proofs.Common.{rules}
 use Rattle.replay_list.proofs.outcome.listed.Goals as goal
 
 pub returns : goal.returns

@@ -1,6 +1,5 @@
 -- `replay_list::outcome::pack` meets its contract.
 use Rattle.mc_state.specs.PackLaws.{packs-accepted, packs-refused}
-use Rattle.std.proofs.Common.{rules}
 use Rattle.replay_list.proofs.outcome.pack.Goals as goal
 
 pub returns-in-Accepted : goal.returns-in-Accepted

@@ -1,5 +1,4 @@
 -- `replay_list::outcome::reached` meets its contract.
-use Rattle.std.proofs.Common.{rules}
 use Rattle.replay_list.proofs.outcome.reached.Goals as goal
 
 pub returns : goal.returns

@@ -1,5 +1,5 @@
 -- `replay_list::tally::answered` meets its contract.
-use Rattle.std.proofs.Common.{rules, le-leb}
+use Rattle.std.proofs.Common.{le-leb}
 use borrow.Author.Tests.{lt-leb}
 use Rattle.replay_list.proofs.tally.answered.Goals as goal
 

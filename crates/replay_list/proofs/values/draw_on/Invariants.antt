@@ -1,7 +1,6 @@
 -- `replay_list::values::draw_on` meets its contract.
-use Rattle.std.proofs.Common.{◌≡◌, ℕ, ◌-◌, ◌≤◌, sym, refl, ap, ◌∙◌, le_antisymm, arith, rules}
-use Rattle.replay_list.specs.Values.{drawn, drawnTo}
-use Rattle.replay_list.specs.ValuesLaws.{draw-more}
+use Rattle.std.proofs.Common.{◌≡◌, ◌-◌, ◌≤◌}
+use Rattle.replay_list.specs.Values.{drawnTo}
 use Rattle.replay_list.proofs.values.draw_on.Given as goal
 
 abbrev pub invariant-loop-k : goal.invariant-loop-k

@@ -1,5 +1,5 @@
 -- `replay_list::values::wild_value` meets its contract.
-use Rattle.std.proofs.Common.{ap, ◌∙◌, rules}
+use Rattle.std.proofs.Common.{ap, ◌∙◌}
 use lib.Ieee.{neg}
 use Rattle.replay_list.specs.Values.{wildOf}
 use Rattle.replay_list.specs.ValuesLaws.{above-all, below_all, no_number, wild-other}

@@ -1,6 +1,5 @@
 -- `boundary_run::loan::Loan::new` meets its contract.
 use lib.Ieee.{round, of_bits}
-use borrow.Author.Rules.{rules}
 use Rattle.boundary_run.proofs.loan.Loan.new.Goals as goal
 
 pub returns : goal.returns

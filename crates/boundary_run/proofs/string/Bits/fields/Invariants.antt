@@ -1,10 +1,7 @@
 -- `boundary_run::string::Bits::fields` meets its contract: after k turns there are k fields more.
-use Prim.Native.Nat.{ℕ, ◌-◌, ◌≤◌}
-use mathlib.Core.Path.{◌≡◌, refl, ap, ◌∙◌}
-use native.Mathlib.Omega.{arith}
-use borrow.Author.Rules.{rules}
+use Prim.Native.Nat.{◌-◌, ◌≤◌}
+use mathlib.Core.Path.{◌≡◌}
 use Rattle.boundary_run.specs.String.{fields_of}
-use Rattle.boundary_run.specs.StringLaws.{fields-more}
 use Rattle.boundary_run.proofs.string.Bits.fields.Given as goal
 
 abbrev pub invariant-loop-k : goal.invariant-loop-k

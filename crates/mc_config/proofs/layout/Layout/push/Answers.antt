@@ -2,7 +2,6 @@
 use mathlib.Core.Path.{sym}
 use mathlib.Core.List.{[], ◌∷◌}
 use Prim.Native.Nat.{◌<◌}
-use borrow.Author.Rules.{rules}
 use lib.ListN.{length, length-append}
 use Rattle.mc_config.specs.Config.{left}
 use Rattle.mc_config.specs.RecordsLaws.{padded-push}
