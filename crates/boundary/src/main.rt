@@ -2,10 +2,12 @@
 // changes of reading with and without carrying, desks and conversion, and writes a line on each: what the call answered, and what became of the buffers
 // and of the state.
 #![tactic(auto)]
+
 mod desks;
 mod frames;
 mod heads;
 mod lines;
+mod out;
 mod print;
 
 use desks::{convert_lines, desk_lines};
@@ -13,15 +15,19 @@ use lines::{
     carry_lines, layout_lines, mono_lines, phantom_lines, reading_lines, refusal_lines,
     string_lines,
 };
+use out::Out;
+use std::io;
 
-fn main() {
-    string_lines();
-    layout_lines();
-    mono_lines();
-    refusal_lines();
-    reading_lines();
-    phantom_lines();
-    carry_lines();
-    desk_lines();
-    convert_lines();
+fn main(rt: HostRuntime) -> io::Result<()> {
+    let mut out = Out::new(&rt);
+    string_lines(&mut out);
+    layout_lines(&mut out);
+    mono_lines(&mut out);
+    refusal_lines(&mut out);
+    reading_lines(&mut out);
+    phantom_lines(&mut out);
+    carry_lines(&mut out);
+    desk_lines(&mut out);
+    convert_lines(&mut out);
+    out.end()
 }

@@ -3,55 +3,40 @@ ghost use Rattle.std.specs.Prelude.{◌≡◌};
 ghost use Rattle.boundary_look.specs.Look.{sameValues};
 ghost use Rattle.boundary_run.specs.Run.{sameTallies, sameCounts, storedBy};
 
+use crate::out::Out;
 use boundary_look::{is_stored, same_values};
 use boundary_run::{Found, Loan, Told, in_numbers, ramp};
-use libc::STDOUT_FILENO;
 use mc_state::{CarriedState, CarryAnswer, McDecodeState};
 
-pub fn say(text: &[u8]) {
-    io::write_all(STDOUT_FILENO, text);
-}
-
-pub fn say_number(n: usize) {
-    io::print_decimal(STDOUT_FILENO, n as u64);
-}
-
-fn say_answer(answer: Told) {
-    if answer.number == 0 {
-        say(b"accepted, ");
-        say_number(answer.first);
-        say(b" head bits, ");
-        say_number(answer.second);
-        say(b" payload bits");
-        return;
+fn say_answer(out: &mut Out<impl Print>, answer: Told) {
+    let number = answer.number;
+    let first = answer.first;
+    let second = answer.second;
+    if number == 0 {
+        write!(out, "accepted, {first} head bits, {second} payload bits");
+    } else {
+        write!(out, "refusal {number}, group {first}, code {second}");
     }
-    say(b"refusal ");
-    say_number(answer.number as usize);
-    say(b", group ");
-    say_number(answer.first);
-    say(b", code ");
-    say_number(answer.second);
 }
 
-fn say_tallies(tallies: [u32; 8]) {
-    say(b"tallies");
-    for desk in 0usize..8 {
-        say(b" ");
-        say_number(tallies[desk] as usize);
+fn say_tallies(out: &mut Out<impl Print>, tallies: [u32; 8]) {
+    out.put(b"tallies");
+    for tally in tallies {
+        write!(out, " {tally}");
     }
 }
 
 // The count, the layout where it is known, and the tallies of all desks.
-fn say_counts(state: McDecodeState) {
-    say(b"layout count ");
-    say_number(state.layout_len as usize);
-    if state.layout != 0 {
-        say(b", layout ");
-        say_number(state.layout as usize);
+fn say_counts(out: &mut Out<impl Print>, state: McDecodeState) {
+    let count = state.layout_len;
+    write!(out, "layout count {count}");
+    let layout = state.layout;
+    if layout != 0 {
+        write!(out, ", layout {layout}");
     }
-    say(b", ");
+    out.put(b", ");
     let tallies = state.accepted;
-    say_tallies(tallies);
+    say_tallies(out, tallies);
 }
 
 // Whether the history holds the base's last slots; one base channel stands in both halves.
@@ -96,80 +81,85 @@ fn same_counts(before: McDecodeState, after: McDecodeState) -> bool
 }
 
 // What became of the state.
-fn say_state(loan: Loan, before: McDecodeState, after: McDecodeState) {
+fn say_state(out: &mut Out<impl Print>, loan: Loan, before: McDecodeState, after: McDecodeState) {
     let counts = same_counts(before, after);
     if same_history(before, after) & counts {
-        say(b"; state as it was");
+        out.put(b"; state as it was");
         return;
     }
     if stored(loan, after) {
-        say(b"; history stored, ");
+        out.put(b"; history stored, ");
     } else {
-        say(b"; history neither stored nor as it was, ");
+        out.put(b"; history neither stored nor as it was, ");
     }
-    say_counts(after);
+    say_counts(out, after);
     if counts {
-        say(b" as they were");
+        out.put(b" as they were");
     }
 }
 
 // The answer, the buffers and the state, without the line's end.
-pub fn say_found(loan: Loan, before: McDecodeState, found: Found) {
+pub fn say_found(out: &mut Out<impl Print>, loan: Loan, before: McDecodeState, found: Found) {
     let answer = found.answer;
     let state = found.state;
-    say(b": ");
-    say_answer(in_numbers(answer));
+    out.put(b": ");
+    say_answer(out, in_numbers(answer));
     if found.kept {
-        say(b"; buffers as they were");
+        out.put(b"; buffers as they were");
     }
-    say_state(loan, before, state);
+    say_state(out, loan, before, state);
 }
 
 // What carrying answered, and what became of the state, without the line's end.
-pub fn say_carried(before: McDecodeState, carried: CarriedState) {
+pub fn say_carried(out: &mut Out<impl Print>, before: McDecodeState, carried: CarriedState) {
     let answer = carried.answer;
     let after = carried.state;
     match answer {
         CarryAnswer::Carried => {
-            say(b": carried");
+            out.put(b": carried");
         }
         CarryAnswer::Refused(e) => {
-            say(b": refusal ");
-            say_number(e.number() as usize);
+            let number = e.number();
+            write!(out, ": refusal {number}");
         }
     }
     let history = same_history(before, after);
     if history & same_counts(before, after) {
-        say(b"; state as it was");
+        out.put(b"; state as it was");
         return;
     }
     if history {
-        say(b"; history as it was, ");
+        out.put(b"; history as it was, ");
     } else {
-        say(b"; history not as it was, ");
+        out.put(b"; history not as it was, ");
     }
-    say_counts(after);
+    say_counts(out, after);
 }
 
 // What conversion answered, and what became of the state and of the older one's history, without the line's end.
-pub fn say_converted(before: McDecodeState, history: &[f64], converted: CarriedState) {
+pub fn say_converted(
+    out: &mut Out<impl Print>,
+    before: McDecodeState,
+    history: &[f64],
+    converted: CarriedState,
+) {
     let answer = converted.answer;
     let after = converted.state;
     match answer {
         CarryAnswer::Carried => {
             let kept = after.pred_hist;
             if same_values(&kept, history) {
-                say(b": converted; history kept, ");
+                out.put(b": converted; history kept, ");
             } else {
-                say(b": converted; history not kept, ");
+                out.put(b": converted; history not kept, ");
             }
-            say_counts(after);
+            say_counts(out, after);
         }
         CarryAnswer::Refused(e) => {
-            say(b": refusal ");
-            say_number(e.number() as usize);
+            let number = e.number();
+            write!(out, ": refusal {number}");
             if same_history(before, after) & same_counts(before, after) {
-                say(b"; state as it was");
+                out.put(b"; state as it was");
             }
         }
     }

@@ -1,5 +1,6 @@
 // Runs a list of frames with the oracle's answers through the frame call and compares every output bit, by hashes.
 #![tactic(auto)]
+
 ghost use Rattle.std.specs.Prelude.{◌≡◌, eqb};
 ghost use Rattle.encoding.specs.Encoding.{number_at};
 
@@ -173,15 +174,13 @@ fn replay(rt: &(impl Input + Print), count: u64) -> io::Result<bool> {
         values: 0,
         different: 0,
     };
-    let mut left = count;
-    while 0 < left {
+    for _ in 0..count {
         let t = next_frame(rt, state, tally, &mut raw, &mut work, &mut output, &mut lfe)?;
         if !t.whole {
             return Ok(false);
         }
         state = t.state;
         tally = t.tally;
-        left -= 1;
     }
     if ends(rt)? {
         report::totals(rt, tally)?;

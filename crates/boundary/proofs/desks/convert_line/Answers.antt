@@ -1,8 +1,7 @@
 -- `boundary::desks::convert_line` meets its contract: of what the callee leaves it returns the state.
-use mathlib.Core.Path.{ap}
-use borrow.Author.Rules.{rules}
+use Rattle.std.proofs.Common.{ap}
 use Rattle.mc_state.specs.Carry.{Carrying}
 use Rattle.boundary.proofs.desks.convert_line.Goals as goal
 
 pub returns : goal.returns
-returns c = ap (λ (k : Carrying). k.state) c.convert-converted.ensures
+returns g c = ap (λ (k : Carrying). k.state) c.convert-converted.ensures

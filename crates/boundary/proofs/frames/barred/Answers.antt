@@ -1,5 +1,4 @@
 -- `boundary::frames::barred` meets its contract.
-use borrow.Author.Rules.{rules}
 use Rattle.boundary.proofs.frames.barred.Goals as goal
 
 pub returns : goal.returns

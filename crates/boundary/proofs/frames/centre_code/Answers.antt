@@ -1,5 +1,4 @@
 -- `boundary::frames::centre_code` meets its contract.
-use borrow.Author.Rules.{rules}
 use Rattle.boundary.proofs.frames.centre_code.Goals as goal
 
 pub returns : goal.returns

@@ -1,5 +1,4 @@
 -- `boundary::frames::forbidden` meets its contract.
-use borrow.Author.Rules.{rules}
 use Rattle.boundary.proofs.frames.forbidden.Goals as goal
 
 pub returns : goal.returns

@@ -1,5 +1,4 @@
 -- `boundary::frames::layer_three` meets its contract.
-use borrow.Author.Rules.{rules}
 use Rattle.boundary.proofs.frames.layer_three.Goals as goal
 
 pub returns : goal.returns

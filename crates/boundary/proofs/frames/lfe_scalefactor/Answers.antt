@@ -1,6 +1,5 @@
 -- `boundary::frames::lfe_scalefactor` meets its contract.
 use Rattle.boundary.specs.Heads.{written}
-use borrow.Author.Rules.{rules}
 use Rattle.boundary.proofs.frames.lfe_scalefactor.Goals as goal
 
 pub returns : goal.returns

@@ -1,5 +1,4 @@
 -- `boundary::frames::longest` meets its contract.
-use borrow.Author.Rules.{rules}
 use Rattle.boundary.proofs.frames.longest.Goals as goal
 
 pub returns : goal.returns

@@ -1,5 +1,4 @@
 -- `boundary::frames::mono_surround` meets its contract.
-use borrow.Author.Rules.{rules}
 use Rattle.boundary.proofs.frames.mono_surround.Goals as goal
 
 pub returns : goal.returns

@@ -1,5 +1,4 @@
 -- `boundary::frames::three_one` meets its contract.
-use borrow.Author.Rules.{rules}
 use Rattle.boundary.proofs.frames.three_one.Goals as goal
 
 pub returns : goal.returns

@@ -1,5 +1,4 @@
 -- `boundary::frames::three_two` meets its contract.
-use borrow.Author.Rules.{rules}
 use Rattle.boundary.proofs.frames.three_two.Goals as goal
 
 pub returns : goal.returns

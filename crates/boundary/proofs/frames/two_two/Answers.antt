@@ -1,5 +1,4 @@
 -- `boundary::frames::two_two` meets its contract.
-use borrow.Author.Rules.{rules}
 use Rattle.boundary.proofs.frames.two_two.Goals as goal
 
 pub returns : goal.returns

@@ -1,6 +1,5 @@
 -- `boundary::heads::crossed_head` meets its contract.
 use Rattle.boundary.specs.Heads.{written, crossedHead}
-use borrow.Author.Rules.{rules}
 use Rattle.boundary.proofs.heads.crossed_head.Goals as goal
 
 pub returns : goal.returns

@@ -1,6 +1,5 @@
 -- `boundary::heads::header` meets its contract.
 use Rattle.boundary.specs.Heads.{written, headerOf}
-use borrow.Author.Rules.{rules}
 use Rattle.boundary.proofs.heads.header.Goals as goal
 
 pub returns : goal.returns

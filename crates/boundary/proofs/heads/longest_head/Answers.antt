@@ -1,6 +1,5 @@
 -- `boundary::heads::longest_head` meets its contract.
 use Rattle.boundary.specs.Heads.{written, longestHead}
-use borrow.Author.Rules.{rules}
 use Rattle.boundary.proofs.heads.longest_head.Goals as goal
 
 pub returns : goal.returns

@@ -1,6 +1,5 @@
 -- `boundary::heads::plain_head` meets its contract.
 use Rattle.boundary.specs.Heads.{written, plainHead}
-use borrow.Author.Rules.{rules}
 use Rattle.boundary.proofs.heads.plain_head.Goals as goal
 
 pub returns : goal.returns

@@ -1,12 +1,6 @@
 -- `boundary::print::same_tallies` meets its contract: before a desk the flag is the test of the desks below it.
-use mathlib.Core.Path.{◌≡◌, refl}
-use Prim.Native.Nat.{◌-◌, ◌≤◌}
-use native.Mathlib.Omega.{arith}
-use borrow.Author.Rules.{rules}
-use lib.Dec.{eqb}
-use Rattle.fill.specs.Each.{each}
+use Rattle.std.proofs.Common.{refl, arith}
 use Rattle.fill.specs.EachLaws.{each_start, each_next, each-end}
-use Rattle.mc_state.specs.Desk.{tallyAt}
 use Rattle.boundary.proofs.print.same_tallies.Goals as goal
 
 pub loop-desk-init : goal.loop-desk-init

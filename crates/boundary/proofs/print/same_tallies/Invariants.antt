@@ -1,16 +1,8 @@
 -- `boundary::print::same_tallies` meets its contract: before a desk the flag is the test of the desks below it.
-use mathlib.Core.Path.{◌≡◌, refl}
-use Prim.Native.Nat.{◌-◌, ◌≤◌}
-use native.Mathlib.Omega.{arith}
-use borrow.Author.Rules.{rules}
-use lib.Dec.{eqb}
+use Rattle.std.proofs.Common.{◌≡◌, ◌≤◌, eqb}
 use Rattle.fill.specs.Each.{each}
-use Rattle.fill.specs.EachLaws.{each_start, each_next, each-end}
 use Rattle.mc_state.specs.Desk.{tallyAt}
 use Rattle.boundary.proofs.print.same_tallies.Given as goal
 
 abbrev pub invariant-loop-desk : goal.invariant-loop-desk
 invariant-loop-desk l = (l.desk ≤ 8) × (l.are ≡ each (λ d. eqb (tallyAt l.xs d) (tallyAt l.ys d)) l.desk)
-
-abbrev pub decreases-loop-desk : goal.decreases-loop-desk
-decreases-loop-desk l = 8 - l.desk

@@ -1,6 +1,5 @@
 -- `boundary::print::stored` meets its contract, for one base channel and for two.
 use Rattle.boundary_run.specs.RunLaws.{stored-mono, stored-stereo}
-use borrow.Author.Rules.{rules}
 use Rattle.boundary.proofs.print.stored.Goals as goal
 
 pub returns-then-loan-eq1 : goal.returns-then-loan-eq1
