@@ -4,7 +4,7 @@ use mathlib.Core.List.{[], ◌∷◌}
 use Prim.Native.Nat.{ℕ}
 use Rattle.bits.specs.Bits.{bit_at, value_at}
 use Rattle.bits.specs.Syntax.{plain, Syntax, done, field, accepted, refused, run}
-use Rattle.bit_reader.specs.Answer.{readAt}
+use Rattle.bit_reader.specs.Answer.{read_at}
 use Rattle.bit_reader.specs.declared.BitRead.TheVariants.{Value, Short}
 
 -- the first bit is the highest
@@ -27,17 +27,17 @@ unfolding value_at bit_at
 past = refl
 
 -- the last four bits of eight, and one bit too many
-last : readAt (0xab ∷ []) 8 4 4 ≡ Value 0xb 8
-unfolding readAt value_at bit_at
+last : read_at (0xab ∷ []) 8 4 4 ≡ Value 0xb 8
+unfolding read_at value_at bit_at
 last = refl
 
-short : readAt (0xab ∷ []) 8 4 5 ≡ Short
-unfolding readAt
+short : read_at (0xab ∷ []) 8 4 5 ≡ Short
+unfolding read_at
 short = refl
 
 -- a field of 0 bits at the limit
-empty : readAt (0xab ∷ []) 8 8 0 ≡ Value 0 8
-unfolding readAt value_at
+empty : read_at (0xab ∷ []) 8 8 0 ≡ Value 0 8
+unfolding read_at value_at
 empty = refl
 
 -- two fields, and the same cut by one bit

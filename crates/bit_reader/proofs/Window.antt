@@ -8,7 +8,7 @@ use lib.Dec.{lit<}
 use lib.ListN.{get_or}
 use lib.Pow.{shl_exact}
 use Rattle.bits.specs.Bits.{value_at}
-use Rattle.bits.specs.BitsLaws.{field-of-window}
+use Rattle.bits.proofs.BitsLaws.{field-of-window}
 
 -- `1 << n` at 32 bits
 pub one_shl : (n : ℕ) → n ≤ 16 → (1 * 2 ^ n) % 2 ^ 32 ≡ 2 ^ n

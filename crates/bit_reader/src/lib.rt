@@ -2,7 +2,7 @@
 #![tactic(auto)]
 
 ghost use Rattle.std.specs.Prelude.{◌≡◌, ◌≤◌, get_or};
-ghost use Rattle.bit_reader.specs.Answer.{readAt};
+ghost use Rattle.bit_reader.specs.Answer.{read_at};
 
 // The value and the position of the next bit; or short, where the field passes the limit.
 #[derive(Clone, Copy)]
@@ -22,7 +22,7 @@ fn byte_at(bytes: &[u8], i: usize) -> u32
 // The n bits from bit `at` on, the highest first. They lie in three bytes, from that of the first bit on.
 pub fn read_bits(bytes: &[u8], limit: usize, at: usize, n: usize) -> BitRead
     requires { n ≤ 16 }
-    ensures { result ≡ readAt bytes.now limit at n }
+    ensures { result ≡ read_at bytes.now limit at n }
 {
     if limit < n {
         return BitRead::Short;
@@ -57,7 +57,7 @@ impl<'a> BitReader<'a> {
     // The n bits at the reader's position.
     pub fn read(self, n: usize) -> BitRead
         requires { n ≤ 16 }
-        ensures { result ≡ readAt self.entry.bytes.now self.entry.limit self.entry.at n }
+        ensures { result ≡ read_at self.entry.bytes.now self.entry.limit self.entry.at n }
     {
         read_bits(self.bytes, self.limit, self.at, n)
     }
@@ -66,7 +66,7 @@ impl<'a> BitReader<'a> {
 // A read through a reader that is made for it.
 pub fn read_field(bytes: &[u8], limit: usize, at: usize, n: usize) -> BitRead
     requires { n ≤ 16 }
-    ensures { result ≡ readAt bytes.now limit at n }
+    ensures { result ≡ read_at bytes.now limit at n }
 {
     BitReader::new(bytes, limit, at).read(n)
 }

@@ -49,32 +49,32 @@ abbrev pub place_in : List QuantClass → ℕ → ℕ
 place_in [] steps = 0
 place_in (class ∷ rest) steps = cond (eqb class.nb_steps steps) 0 (suc (place_in rest steps))
 
-unfoldable pub classIndex : ℕ → ℕ
+unfoldable pub class_index : ℕ → ℕ
 unfolding classes
-classIndex steps = place_in classes steps
+class_index steps = place_in classes steps
 
 -- whether it is the number of steps of one of the 17 classes
-abbrev pub isClass : ℕ → Bool
-isClass steps = ltb (classIndex steps) 17
+abbrev pub is_class : ℕ → Bool
+is_class steps = ltb (class_index steps) 17
 
 abbrev pub class_of : ℕ → QuantClass
-class_of steps = class_at (classIndex steps)
+class_of steps = class_at (class_index steps)
 
-abbrev pub lookupOf : ℕ → ClassLookup
-lookupOf steps = cond (isClass steps) (Found (class_of steps)) Unknown
+abbrev pub lookup_of : ℕ → ClassLookup
+lookup_of steps = cond (is_class steps) (Found (class_of steps)) Unknown
 
 -- the columns, by the number of steps
-abbrev pub cOf : ℕ → Float
-cOf steps = (class_of steps).c
+abbrev pub c_of : ℕ → Float
+c_of steps = (class_of steps).c
 
-abbrev pub dOf : ℕ → Float
-dOf steps = (class_of steps).d
+abbrev pub d_of : ℕ → Float
+d_of steps = (class_of steps).d
 
 abbrev pub grouped : ℕ → Bool
 grouped steps = (class_of steps).grouping
 
-abbrev pub bitsPerSample : ℕ → ℕ
-bitsPerSample steps = (class_of steps).bits_per_sample
+abbrev pub bits_per_sample : ℕ → ℕ
+bits_per_sample steps = (class_of steps).bits_per_sample
 
-abbrev pub bitsPerCodeword : ℕ → ℕ
-bitsPerCodeword steps = (class_of steps).bits_per_codeword
+abbrev pub bits_per_codeword : ℕ → ℕ
+bits_per_codeword steps = (class_of steps).bits_per_codeword

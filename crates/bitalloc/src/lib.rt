@@ -2,7 +2,7 @@
 #![tactic(auto)]
 
 ghost use Rattle.std.specs.Prelude.{◌≡◌, ◌<◌};
-ghost use Rattle.bitalloc.specs.Classes.{class_at, classIndex, class_of, lookupOf};
+ghost use Rattle.bitalloc.specs.Classes.{class_at, class_index, class_of, lookup_of};
 
 // A row of Table B.4, with the number of bits of one sample. The table's samples per codeword are left out: three where
 // they are grouped, else one.
@@ -172,7 +172,7 @@ pub fn class_at(index: usize) -> QuantClass
 
 // The place of the class that has this number of steps, or 17 where none has. A search of the constant table would lay it out anew.
 pub fn class_index(nb_steps: u32) -> usize
-    ensures { result ≡ classIndex nb_steps }
+    ensures { result ≡ class_index nb_steps }
 {
     match nb_steps {
         3 => 0,
@@ -198,7 +198,7 @@ pub fn class_index(nb_steps: u32) -> usize
 
 // The class that has this number of steps.
 pub fn class_of_quantization(nb_steps: u32) -> ClassLookup
-    ensures { result ≡ lookupOf nb_steps }
+    ensures { result ≡ lookup_of nb_steps }
 {
     let index = class_index(nb_steps);
     if index < CLASS_COUNT {

@@ -1,16 +1,4 @@
 pub mod Bits
-pub mod BitsLaws
 pub mod Syntax
-pub mod SyntaxLaws
-pub mod Unique
 pub mod Table
-pub mod TableFill
-pub mod Theorems
-pub mod Yields
-pub mod Width
-pub mod Entries
-pub mod TableFits
 pub mod Total
-pub mod TotalLaws
-pub mod Zeros
-pub mod WidthTotal

@@ -1,6 +1,6 @@
 // The lines of desks and of conversion.
 ghost use Rattle.std.specs.Prelude.{◌≡◌};
-ghost use Rattle.mc_state.specs.Carry.{convertedOver};
+ghost use Rattle.mc_state.specs.Carry.{converted_over};
 
 use crate::frames::{three_one, three_two};
 use crate::lines::{carry_line, line};
@@ -67,7 +67,7 @@ fn convert_line(
     layout: u8,
     accepted: u32,
 ) -> McDecodeState
-    ensures { result ≡ (convertedOver history.now layout_len layout accepted state).state }
+    ensures { result ≡ (converted_over history.now layout_len layout accepted state).state }
 {
     let converted = state.convert(history, layout_len, layout, accepted);
     out.put(name);

@@ -1,13 +1,13 @@
 // The frames.
 ghost use Rattle.std.specs.Prelude.{◌≡◌};
-ghost use Rattle.boundary.specs.Frames.{threeTwo, threeOne, twoTwo, scalefactorFrame, lfeFrame, longestFrame, phantomFrame, monoSurround, forbiddenFrame, layerThree, barredFrame, centreFrame};
+ghost use Rattle.boundary.specs.Frames.{three_two, three_one, two_two, scalefactor_frame, lfe_frame, longest_frame, phantom_frame, mono_surround, forbidden_frame, layer_three, barred_frame, centre_frame};
 
 use crate::heads::{crossed_head, longest_head, plain_head};
 use boundary_run::{Bits, Loan, bytes, first_steps, payload_from, payload_of_ones};
 
 // 3/2, 3/1 and 2/2 with nothing transmitted; the base begins with this value.
 pub fn three_two(left: f64) -> Loan
-    ensures { result ≡ threeTwo left }
+    ensures { result ≡ three_two left }
 {
     let mut loan = Loan::new(plain_head(1, 2, 3, 0, 0));
     loan.left = left;
@@ -15,7 +15,7 @@ pub fn three_two(left: f64) -> Loan
 }
 
 pub fn three_one(left: f64) -> Loan
-    ensures { result ≡ threeOne left }
+    ensures { result ≡ three_one left }
 {
     let mut loan = Loan::new(plain_head(1, 1, 3, 0, 0));
     loan.left = left;
@@ -23,7 +23,7 @@ pub fn three_one(left: f64) -> Loan
 }
 
 pub fn two_two(left: f64) -> Loan
-    ensures { result ≡ twoTwo left }
+    ensures { result ≡ two_two left }
 {
     let mut loan = Loan::new(plain_head(0, 2, 2, 0, 0));
     loan.left = left;
@@ -32,7 +32,7 @@ pub fn two_two(left: f64) -> Loan
 
 // 3/2 with 7 steps in one place, whose last scalefactor is `code`.
 pub fn scalefactor(code: u32) -> Loan
-    ensures { result ≡ scalefactorFrame code }
+    ensures { result ≡ scalefactor_frame code }
 {
     let start = Bits::new()
         .field(2, 0) // scfsi: three scalefactors
@@ -52,7 +52,7 @@ pub fn scalefactor(code: u32) -> Loan
 
 // 3/2 with an LFE allocation of 1 (2 bits to a sample) and this LFE scalefactor.
 pub fn lfe_scalefactor(code: u32) -> Loan
-    ensures { result ≡ lfeFrame code }
+    ensures { result ≡ lfe_frame code }
 {
     let start = Bits::new().field(6, code);
     let bits = start.bits;
@@ -66,7 +66,7 @@ pub fn lfe_scalefactor(code: u32) -> Loan
 
 // Every field at its longest: 65,535 steps in all 30 subbands of three channels.
 pub fn longest(head_bits: usize, payload_bits: usize) -> Loan
-    ensures { result ≡ longestFrame head_bits payload_bits }
+    ensures { result ≡ longest_frame head_bits payload_bits }
 {
     let steps = first_steps(3, 30, 65535);
     let mut loan = Loan::new(longest_head());
@@ -80,7 +80,7 @@ pub fn longest(head_bits: usize, payload_bits: usize) -> Loan
 // Mono base, phantom centre, second stereo, under a reading; 7 steps in the first subbands of second left. Each has an scfsi code and three
 // scalefactors, 20 bits that are 0, and samples of 108 bits, which are 1 from the first whole byte on.
 pub fn phantom(subbands: u8, reading: u32) -> Loan
-    ensures { result ≡ phantomFrame subbands reading }
+    ensures { result ≡ phantom_frame subbands reading }
 {
     let n = subbands as usize;
     let steps = first_steps(1, n, 7);
@@ -96,7 +96,7 @@ pub fn phantom(subbands: u8, reading: u32) -> Loan
 
 // Mono base, no centre, stereo surround.
 pub fn mono_surround() -> Loan
-    ensures { result ≡ monoSurround }
+    ensures { result ≡ mono_surround }
 {
     let mut loan = Loan::new(plain_head(0, 2, 0, 0, 0));
     loan.base_channels = 1;
@@ -105,21 +105,21 @@ pub fn mono_surround() -> Loan
 
 // 3/2 with a crosstalk code in group 5.
 pub fn forbidden(code: u32) -> Loan
-    ensures { result ≡ forbiddenFrame code }
+    ensures { result ≡ forbidden_frame code }
 {
     Loan::new(crossed_head(5, code, 6))
 }
 
 // 3/2 with the Layer III flag.
 pub fn layer_three() -> Loan
-    ensures { result ≡ layerThree }
+    ensures { result ≡ layer_three }
 {
     Loan::new(plain_head(1, 2, 3, 0, 1))
 }
 
 // 3/2 with a phantom centre and a step count in its subband 12.
 pub fn barred() -> Loan
-    ensures { result ≡ barredFrame }
+    ensures { result ≡ barred_frame }
 {
     let steps = first_steps(1, 13, 7);
     let mut loan = Loan::new(plain_head(3, 2, 3, 0, 0));
@@ -129,7 +129,7 @@ pub fn barred() -> Loan
 
 // A centre code without surround, under a reading; nothing transmitted, the base begins with this value.
 pub fn centre_code(code: u32, reading: u32, left: f64) -> Loan
-    ensures { result ≡ centreFrame code reading left }
+    ensures { result ≡ centre_frame code reading left }
 {
     let mut loan = Loan::new(plain_head(code, 0, 0, 0, 0));
     loan.reading = reading;

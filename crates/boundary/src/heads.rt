@@ -1,12 +1,12 @@
 // Head strings, field by field: mc_header(), mc_crc_check, mc_composite_status_info().
 ghost use Rattle.std.specs.Prelude.{◌≡◌};
-ghost use Rattle.boundary.specs.Heads.{headerOf, plainHead, crossedHead, longestHead};
+ghost use Rattle.boundary.specs.Heads.{header_of, plain_head, crossed_head, longest_head};
 
 use boundary_run::Bits;
 
 // mc_header() from `centre` on.
 fn header(start: Bits, centre: u32, surround: u32, lfe: u32, layer3: u32) -> Bits
-    ensures { result ≡ headerOf start centre surround lfe layer3 }
+    ensures { result ≡ header_of start centre surround lfe layer3 }
 {
     start
         .field(2, centre)
@@ -22,7 +22,7 @@ fn header(start: Bits, centre: u32, surround: u32, lfe: u32, layer3: u32) -> Bit
 
 // Nothing crossed, nothing predicted, one tc of `tc_bits` bits for all groups.
 pub fn plain_head(centre: u32, surround: u32, tc_bits: usize, lfe: u32, layer3: u32) -> Bits
-    ensures { result ≡ plainHead centre surround tc_bits lfe layer3 }
+    ensures { result ≡ plain_head centre surround tc_bits lfe layer3 }
 {
     let start = Bits::new().field(1, 0); // ext_bit_stream_present
     header(start, centre, surround, lfe, layer3)
@@ -35,7 +35,7 @@ pub fn plain_head(centre: u32, surround: u32, tc_bits: usize, lfe: u32, layer3: 
 
 // 3/2 with a crosstalk code in one group, and code 0 in the groups before and after it.
 pub fn crossed_head(before: usize, code: u32, after: usize) -> Bits
-    ensures { result ≡ crossedHead before code after }
+    ensures { result ≡ crossed_head before code after }
 {
     let start = Bits::new().field(1, 0); // ext_bit_stream_present
     header(start, 1, 2, 0, 0)
@@ -52,7 +52,7 @@ pub fn crossed_head(before: usize, code: u32, after: usize) -> Bits
 
 // 3/2 with every field that a head can have: 232 bits.
 pub fn longest_head() -> Bits
-    ensures { result ≡ longestHead }
+    ensures { result ≡ longest_head }
 {
     let start = Bits::new()
         .field(1, 1) // ext_bit_stream_present

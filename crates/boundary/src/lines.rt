@@ -1,7 +1,7 @@
 // The lines, in document 01's order.
 ghost use Rattle.std.specs.Prelude.{◌≡◌};
-ghost use Rattle.mc_state.specs.Carry.{carriedOver};
-ghost use Rattle.boundary_run.specs.Run.{afterRun};
+ghost use Rattle.mc_state.specs.Carry.{carried_over};
+ghost use Rattle.boundary_run.specs.Run.{after_run};
 
 use crate::frames::{
     barred, centre_code, forbidden, layer_three, lfe_scalefactor, longest, mono_surround, phantom,
@@ -20,7 +20,7 @@ pub fn line(
     loan: Loan,
     state: McDecodeState,
 ) -> McDecodeState
-    ensures { result ≡ (afterRun loan state).state }
+    ensures { result ≡ (after_run loan state).state }
 {
     let found = run_frame(loan, state);
     out.put(name);
@@ -189,7 +189,7 @@ fn read_line(
 
 // The line of carrying, and the state after it.
 pub fn carry_line(out: &mut Out<impl Print>, name: &[u8], state: McDecodeState) -> McDecodeState
-    ensures { result ≡ (carriedOver state).state }
+    ensures { result ≡ (carried_over state).state }
 {
     let carried = state.carry();
     out.put(name);

@@ -1,7 +1,7 @@
 // Writes lines.
 ghost use Rattle.std.specs.Prelude.{◌≡◌};
-ghost use Rattle.boundary_look.specs.Look.{sameValues};
-ghost use Rattle.boundary_run.specs.Run.{sameTallies, sameCounts, storedBy};
+ghost use Rattle.boundary_look.specs.Look.{same_values};
+ghost use Rattle.boundary_run.specs.Run.{same_tallies, same_counts, stored_by};
 
 use crate::out::Out;
 use boundary_look::{is_stored, same_values};
@@ -41,7 +41,7 @@ fn say_counts(out: &mut Out<impl Print>, state: McDecodeState) {
 
 // Whether the history holds the base's last slots; one base channel stands in both halves.
 fn stored(loan: Loan, state: McDecodeState) -> bool
-    ensures { result ≡ storedBy loan state.pred_hist }
+    ensures { result ≡ stored_by loan state.pred_hist }
 {
     let history = state.pred_hist;
     let left = ramp(loan.left);
@@ -53,7 +53,7 @@ fn stored(loan: Loan, state: McDecodeState) -> bool
 }
 
 fn same_history(before: McDecodeState, after: McDecodeState) -> bool
-    ensures { result ≡ sameValues before.pred_hist after.pred_hist }
+    ensures { result ≡ same_values before.pred_hist after.pred_hist }
 {
     let old = before.pred_hist;
     let new = after.pred_hist;
@@ -61,7 +61,7 @@ fn same_history(before: McDecodeState, after: McDecodeState) -> bool
 }
 
 fn same_tallies(xs: [u32; 8], ys: [u32; 8]) -> bool
-    ensures { result ≡ sameTallies xs ys }
+    ensures { result ≡ same_tallies xs ys }
 {
     let mut are = true;
     for desk in 0usize..8 {
@@ -72,7 +72,7 @@ fn same_tallies(xs: [u32; 8], ys: [u32; 8]) -> bool
 
 // Whether the count, the layout and the tallies are the same.
 fn same_counts(before: McDecodeState, after: McDecodeState) -> bool
-    ensures { result ≡ sameCounts before after }
+    ensures { result ≡ same_counts before after }
 {
     let old = before.accepted;
     let new = after.accepted;

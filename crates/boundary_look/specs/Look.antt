@@ -10,12 +10,12 @@ unfoldable pub same : Float → Float → Bool
 same x y = eq x y && eq (of_bits binary64 0x3FF0000000000000 ⊘ x) (of_bits binary64 0x3FF0000000000000 ⊘ y)
 
 -- each value is x
-abbrev pub allAre : List Float → Float → Bool
-allAre xs x = each (λ k. same (get_or xs k nan) x) (length xs)
+abbrev pub all_are : List Float → Float → Bool
+all_are xs x = each (λ k. same (get_or xs k nan) x) (length xs)
 
 -- equally many values, and the same at each place
-unfoldable pub sameValues : List Float → List Float → Bool
-sameValues xs ys = eqb (length xs) (length ys) && each (λ k. same (get_or xs k nan) (get_or ys k nan)) (length xs)
+unfoldable pub same_values : List Float → List Float → Bool
+same_values xs ys = eqb (length xs) (length ys) && each (λ k. same (get_or xs k nan) (get_or ys k nan)) (length xs)
 
 -- history values k of both base channels are those of the last nine slots, oldest first: subband k / 9, slot 27 + k % 9
 abbrev pub stored_at : List Float → List Float → List Float → ℕ → Bool
@@ -23,33 +23,33 @@ stored_at history left right k =
     same (get_or history k nan) (get_or left ((27 + k % 9) * 32 + k / 9) nan)
     && same (get_or history (288 + k) nan) (get_or right ((27 + k % 9) * 32 + k / 9) nan)
 
-abbrev pub isStored : List Float → List Float → List Float → Bool
-isStored history left right = each (stored_at history left right) 288
+abbrev pub is_stored : List Float → List Float → List Float → Bool
+is_stored history left right = each (stored_at history left right) 288
 
 -- value k of the second output channel is that of the first
-abbrev pub secondIsFirst : List Float → ℕ → Bool
-secondIsFirst output k = same (get_or output (1152 + k) nan) (get_or output k nan)
+abbrev pub second_is_first : List Float → ℕ → Bool
+second_is_first output k = same (get_or output (1152 + k) nan) (get_or output k nan)
 
 -- value k of the third output channel is +0
-abbrev pub thirdIsSilent : List Float → ℕ → Bool
-thirdIsSilent output k = same (get_or output (2304 + k) nan) zero64
+abbrev pub third_is_silent : List Float → ℕ → Bool
+third_is_silent output k = same (get_or output (2304 + k) nan) zero64
 
 -- the second output channel in a subband and a slot
-abbrev pub secondAt : List Float → ℕ → ℕ → Float
-secondAt output subband slot = get_or output (1152 + (32 * slot + subband)) nan
+abbrev pub second_at : List Float → ℕ → ℕ → Float
+second_at output subband slot = get_or output (1152 + (32 * slot + subband)) nan
 
-abbrev pub zerosAt : List Float → ℕ → ℕ → Bool
-zerosAt output subband slot = same (secondAt output subband slot) zero64
+abbrev pub zeros_at : List Float → ℕ → ℕ → Bool
+zeros_at output subband slot = same (second_at output subband slot) zero64
 
-abbrev pub basesAt : List Float → List Float → ℕ → ℕ → Bool
-basesAt output base subband slot = same (secondAt output subband slot) (get_or base (32 * slot + subband) nan)
+abbrev pub bases_at : List Float → List Float → ℕ → ℕ → Bool
+bases_at output base subband slot = same (second_at output subband slot) (get_or base (32 * slot + subband) nan)
 
 -- what the second output channel holds in all slots of a subband: 1 for +0, 2 for the base value, else 0
 unfoldable pub held_of : List Float → List Float → ℕ → ℕ
 held_of output base subband =
-    cond (each (zerosAt output subband) 36) 1 (cond (each (basesAt output base subband) 36) 2 0)
+    cond (each (zeros_at output subband) 36) 1 (cond (each (bases_at output base subband) 36) 2 0)
 
 -- the first of n subbands that does not hold that, or the one after them
-unfoldable pub heldUntil : List Float → List Float → ℕ → ℕ → ℕ → ℕ
-heldUntil output base what zero subband = subband
-heldUntil output base what (suc n) subband = cond (eqb (held_of output base subband) what) (heldUntil output base what n (subband + 1)) subband
+unfoldable pub held_until : List Float → List Float → ℕ → ℕ → ℕ → ℕ
+held_until output base what zero subband = subband
+held_until output base what (suc n) subband = cond (eqb (held_of output base subband) what) (held_until output base what n (subband + 1)) subband

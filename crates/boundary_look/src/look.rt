@@ -1,7 +1,7 @@
 // What is looked at in buffers and state after a frame call.
 ghost use Rattle.std.specs.Prelude.{◌≡◌, ◌-◌, ◌<◌};
 ghost use Rattle.fill.specs.Each.{each};
-ghost use Rattle.boundary_look.specs.Look.{same as Look·same, allAre, sameValues, isStored, secondIsFirst, thirdIsSilent, held_of, heldUntil};
+ghost use Rattle.boundary_look.specs.Look.{same as Look·same, all_are, same_values, is_stored, second_is_first, third_is_silent, held_of, held_until};
 
 // The same bits: equal, and zeros of the same sign. A NaN is the same as nothing.
 fn same(x: f64, y: f64) -> bool
@@ -12,7 +12,7 @@ fn same(x: f64, y: f64) -> bool
 
 // Whether each value is x.
 pub fn all_are(xs: &[f64], x: f64) -> bool
-    ensures { result ≡ allAre xs.now x }
+    ensures { result ≡ all_are xs.now x }
 {
     let mut are = true;
     let mut k: usize = 0;
@@ -25,7 +25,7 @@ pub fn all_are(xs: &[f64], x: f64) -> bool
 
 // Whether two lists of values are the same.
 pub fn same_values(xs: &[f64], ys: &[f64]) -> bool
-    ensures { result ≡ sameValues xs.now ys.now }
+    ensures { result ≡ same_values xs.now ys.now }
 {
     if xs.len() != ys.len() {
         return false;
@@ -41,7 +41,7 @@ pub fn same_values(xs: &[f64], ys: &[f64]) -> bool
 
 // Whether the history holds the last nine slots of a base, oldest first.
 pub fn is_stored(history: &[f64; 576], left: &[f64; 1152], right: &[f64; 1152]) -> bool
-    ensures { result ≡ isStored history.now left.now right.now }
+    ensures { result ≡ is_stored history.now left.now right.now }
 {
     let mut are = true;
     for k in 0usize..288 {
@@ -53,7 +53,7 @@ pub fn is_stored(history: &[f64; 576], left: &[f64; 1152], right: &[f64; 1152]) 
 
 // Whether the second channel of the output is the first.
 pub fn second_is_first(output: &[f64; 5760]) -> bool
-    ensures { result ≡ each (secondIsFirst output.now) 1152 }
+    ensures { result ≡ each (second_is_first output.now) 1152 }
 {
     let mut are = true;
     for k in 0usize..1152 {
@@ -64,7 +64,7 @@ pub fn second_is_first(output: &[f64; 5760]) -> bool
 
 // Whether the third channel of the output is +0 throughout.
 pub fn third_is_silent(output: &[f64; 5760]) -> bool
-    ensures { result ≡ each (thirdIsSilent output.now) 1152 }
+    ensures { result ≡ each (third_is_silent output.now) 1152 }
 {
     let mut are = true;
     for k in 0usize..1152 {
@@ -93,7 +93,7 @@ fn held(output: &[f64; 5760], base: &[f64; 1152], subband: usize) -> u8
 
 // The first subband from `first` on whose second channel does not hold that; 32 if there is none.
 pub fn holds_until(output: &[f64; 5760], base: &[f64; 1152], first: usize, what: u8) -> usize
-    ensures { result ≡ heldUntil output.now base.now what (32 - first) first }
+    ensures { result ≡ held_until output.now base.now what (32 - first) first }
 {
     let mut subband = first;
     while subband < 32 {

@@ -1,10 +1,10 @@
 -- An answer in numbers.
-use Rattle.mc_error.specs.Error.{refusalOf}
+use Rattle.mc_error.specs.Error.{refusal_of}
 use Rattle.mc_state.specs.declared.McAnswer.{McAnswer}
 use Rattle.mc_state.specs.declared.McAnswer.TheVariants.{Accepted, Refused}
 use Rattle.boundary_run.specs.declared.run.Told.{Told}
 
 -- accepted: 0 and the used bits of head and payload; refused: document 01's number, group and code
-abbrev pub toldOf : McAnswer → Told
-toldOf (Accepted head_bits payloadBits) = record { number = 0; first = head_bits; second = payloadBits }
-toldOf (Refused e) = record { number = (refusalOf e).number; first = (refusalOf e).group; second = (refusalOf e).code }
+abbrev pub told_of : McAnswer → Told
+told_of (Accepted head_bits payload_bits) = record { number = 0; first = head_bits; second = payload_bits }
+told_of (Refused e) = record { number = (refusal_of e).number; first = (refusal_of e).group; second = (refusal_of e).code }

@@ -1,7 +1,7 @@
 // What is lent to a frame call.
 ghost use Rattle.std.specs.Prelude.{◌≡◌};
 ghost use Rattle.fill.specs.Tab.{tab};
-ghost use Rattle.boundary_run.specs.Loan.{loanOf, rampOf, stepAt, byteFrom, onesAt};
+ghost use Rattle.boundary_run.specs.Loan.{loan_of, ramp_of, step_at, byte_from, ones_at};
 
 use crate::string::{Bits, bytes};
 
@@ -26,7 +26,7 @@ pub struct Loan {
 impl Loan {
     // The head under reading 1 from desk 0, a stereo base at 44,100 Hz, and no payload.
     pub fn new(head: Bits) -> Loan
-        ensures { result ≡ loanOf head }
+        ensures { result ≡ loan_of head }
     {
         let bits = head.bits;
         let head_bytes = bytes(&bits);
@@ -49,7 +49,7 @@ impl Loan {
 
 // 1,152 base values, each 1/1024 above the one before.
 pub fn ramp(start: f64) -> [f64; 1152]
-    ensures { result ≡ rampOf start }
+    ensures { result ≡ ramp_of start }
 {
     let mut out = [0.0; 1152];
     for k in 0u16..1152 {
@@ -59,7 +59,7 @@ pub fn ramp(start: f64) -> [f64; 1152]
 }
 
 fn step_at(channels: usize, subbands: usize, count: u32, k: usize) -> u32
-    ensures { result ≡ stepAt channels subbands count k }
+    ensures { result ≡ step_at channels subbands count k }
 {
     if k / 32 >= channels {
         return 0;
@@ -72,7 +72,7 @@ fn step_at(channels: usize, subbands: usize, count: u32, k: usize) -> u32
 
 // The step count in the first subbands of the first channels, and 0 elsewhere.
 pub fn first_steps(channels: usize, subbands: usize, count: u32) -> [u32; 96]
-    ensures { result ≡ tab (stepAt channels subbands count) 96 }
+    ensures { result ≡ tab (step_at channels subbands count) 96 }
 {
     let mut out = [0u32; 96];
     for k in 0usize..96 {
@@ -82,14 +82,14 @@ pub fn first_steps(channels: usize, subbands: usize, count: u32) -> [u32; 96]
 }
 
 fn byte_from(start: &[u8; 29], k: usize) -> u8
-    ensures { result ≡ byteFrom start.now k }
+    ensures { result ≡ byte_from start.now k }
 {
     if k < 29 { start[k] } else { 0 }
 }
 
 // A payload that begins with these bytes and is 0 from there on.
 pub fn payload_from(start: &[u8; 29]) -> [u8; 6892]
-    ensures { result ≡ tab (byteFrom start.now) 6892 }
+    ensures { result ≡ tab (byte_from start.now) 6892 }
 {
     let mut out = [0u8; 6892];
     for k in 0usize..6892 {
@@ -99,7 +99,7 @@ pub fn payload_from(start: &[u8; 29]) -> [u8; 6892]
 }
 
 fn ones_at(first: usize, end: usize, k: usize) -> u8
-    ensures { result ≡ onesAt first end k }
+    ensures { result ≡ ones_at first end k }
 {
     if k < first {
         return 0;
@@ -109,7 +109,7 @@ fn ones_at(first: usize, end: usize, k: usize) -> u8
 
 // A payload whose bytes are 255 from the first to before the end, and 0 elsewhere.
 pub fn payload_of_ones(first: usize, end: usize) -> [u8; 6892]
-    ensures { result ≡ tab (onesAt first end) 6892 }
+    ensures { result ≡ tab (ones_at first end) 6892 }
 {
     let mut out = [0u8; 6892];
     for k in 0usize..6892 {

@@ -1,9 +1,9 @@
 // One frame call, and what it left.
 ghost use Rattle.std.specs.Prelude.{◌≡◌, ◌≤◌};
-ghost use Rattle.mc_state.specs.Answer.{buffersFrom, after_of};
+ghost use Rattle.mc_state.specs.Answer.{buffers_from, after_of};
 ghost use Rattle.mc_state.specs.Frame.{frame_of};
-ghost use Rattle.boundary_run.specs.Run.{lent_by, secondLength, afterRun, FoundIs};
-ghost use Rattle.boundary_run.specs.Told.{toldOf};
+ghost use Rattle.boundary_run.specs.Run.{lent_by, second_length, after_run, FoundIs};
+ghost use Rattle.boundary_run.specs.Told.{told_of};
 
 use crate::loan::{Loan, ramp};
 use boundary_look::all_are;
@@ -22,7 +22,7 @@ pub struct Told {
 }
 
 pub fn in_numbers(answer: McAnswer) -> Told
-    ensures { result ≡ toldOf answer }
+    ensures { result ≡ told_of answer }
 {
     match answer {
         McAnswer::Accepted {
@@ -52,7 +52,7 @@ pub struct Found {
 
 // Values and step counts of a second base channel.
 fn second_length(base_channels: u8, n: usize) -> usize
-    ensures { (result ≡ secondLength base_channels n) × (result ≤ n) }
+    ensures { (result ≡ second_length base_channels n) × (result ≤ n) }
 {
     if base_channels == 1 { 0 } else { n }
 }
@@ -69,7 +69,7 @@ fn call<'a>(
     output: &mut [f64],
     lfe: &mut [f64],
 ) -> Framed
-    ensures { after_of result (buffersFrom raw.new work.new output.new lfe.new) ≡ frame_of (lent_by loan left.now right.now base_steps.now) (buffersFrom raw.old work.old output.old lfe.old) state }
+    ensures { after_of result (buffers_from raw.new work.new output.new lfe.new) ≡ frame_of (lent_by loan left.now right.now base_steps.now) (buffers_from raw.old work.old output.old lfe.old) state }
 {
     let head = loan.head;
     let payload = loan.payload;
@@ -100,7 +100,7 @@ fn call<'a>(
 
 // The call, on buffers that hold 1 throughout.
 pub fn run(loan: Loan, state: McDecodeState) -> Found
-    ensures { FoundIs (afterRun loan state) result }
+    ensures { FoundIs (after_run loan state) result }
 {
     let left = ramp(loan.left);
     let right = ramp(loan.right);

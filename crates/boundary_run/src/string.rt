@@ -1,6 +1,6 @@
 // A string of bits while it is written, and its bytes.
 ghost use Rattle.std.specs.Prelude.{◌≡◌, ◌+◌, ◌≤◌};
-ghost use Rattle.boundary_run.specs.String.{nothing, putBits, field_of, fields_of, byteOf, bytes_of};
+ghost use Rattle.boundary_run.specs.String.{nothing, put_bits, field_of, fields_of, byte_of, bytes_of};
 
 // One place for each bit, the first bit first; `at` is the next one to write. 232 is the longest head.
 #[derive(Clone, Copy)]
@@ -12,7 +12,7 @@ pub struct Bits {
 // The n lowest bits of `value` from place `at` on, the highest first.
 fn put(bits: [u8; 232], at: usize, n: usize, value: u32) -> [u8; 232]
     requires { at + n ≤ 232 }
-    ensures { result ≡ putBits bits at n value }
+    ensures { result ≡ put_bits bits at n value }
 {
     let mut out = bits;
     let mut left = n;
@@ -75,7 +75,7 @@ fn wide(x: u8) -> u32
 // Eight places from the first as a byte.
 fn byte(bits: &[u8; 232], first: usize) -> u8
     requires { first + 8 ≤ 232 }
-    ensures { result ≡ byteOf bits.now first 8 }
+    ensures { result ≡ byte_of bits.now first 8 }
 {
     let mut value: u32 = 0;
     for k in 0usize..8 {

@@ -2,5 +2,5 @@
 use Rattle.std.specs.Prelude.{cond, ℕ}
 use Rattle.bitalloc.specs.Classes.{grouped}
 
-abbrev pub groupingLeaf : ℕ → ℕ
-groupingLeaf steps = cond (grouped steps) 1 0
+abbrev pub grouping_leaf : ℕ → ℕ
+grouping_leaf steps = cond (grouped steps) 1 0

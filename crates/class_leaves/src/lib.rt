@@ -3,42 +3,42 @@
 #![tactic(auto)]
 
 ghost use Rattle.std.specs.Prelude.{◌≡◌};
-ghost use Rattle.bitalloc.specs.Classes.{cOf, dOf, bitsPerSample, bitsPerCodeword};
-ghost use Rattle.class_leaves.specs.Grouping.{groupingLeaf};
+ghost use Rattle.bitalloc.specs.Classes.{c_of, d_of, bits_per_sample, bits_per_codeword};
+ghost use Rattle.class_leaves.specs.Grouping.{grouping_leaf};
 
 use bitalloc::class_or_zero;
 
 #[unsafe(no_mangle)]
 pub extern "C" fn mc_leaf_class_bits_per_sample(nb_steps: u32) -> u32
-    ensures { result ≡ bitsPerSample nb_steps }
+    ensures { result ≡ bits_per_sample nb_steps }
 {
     class_or_zero(nb_steps).bits_per_sample
 }
 
 #[unsafe(no_mangle)]
 pub extern "C" fn mc_leaf_class_bits_per_codeword(nb_steps: u32) -> u32
-    ensures { result ≡ bitsPerCodeword nb_steps }
+    ensures { result ≡ bits_per_codeword nb_steps }
 {
     class_or_zero(nb_steps).bits_per_codeword
 }
 
 #[unsafe(no_mangle)]
 pub extern "C" fn mc_leaf_class_grouping(nb_steps: u32) -> u32
-    ensures { result ≡ groupingLeaf nb_steps }
+    ensures { result ≡ grouping_leaf nb_steps }
 {
     class_or_zero(nb_steps).grouping as u32
 }
 
 #[unsafe(no_mangle)]
 pub extern "C" fn mc_leaf_class_c(nb_steps: u32) -> f64
-    ensures { result ≡ cOf nb_steps }
+    ensures { result ≡ c_of nb_steps }
 {
     class_or_zero(nb_steps).c
 }
 
 #[unsafe(no_mangle)]
 pub extern "C" fn mc_leaf_class_d(nb_steps: u32) -> f64
-    ensures { result ≡ dOf nb_steps }
+    ensures { result ≡ d_of nb_steps }
 {
     class_or_zero(nb_steps).d
 }

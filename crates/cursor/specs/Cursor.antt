@@ -12,8 +12,8 @@ step bytes limit c n =
     (record { err = c.err; at = c.at; value = 0 })
 
 -- after a test that refuses with the number e
-unfoldable pub refuseIf : Cursor → Bool → ℕ → Cursor
-refuseIf c bad e = cond (eqb c.err 0) (cond bad (record { err = e; at = c.at; value = 0 }) c) c
+unfoldable pub refuse_if : Cursor → Bool → ℕ → Cursor
+refuse_if c bad e = cond (eqb c.err 0) (cond bad (record { err = e; at = c.at; value = 0 }) c) c
 
 -- what a program finds from a cursor's position on; its refusal, if it has one
 unfoldable pub run_from : {A : Type 0} → List ℕ → ℕ → Cursor → Syntax A → Outcome A

@@ -2,7 +2,7 @@
 #![tactic(auto)]
 
 ghost use Rattle.std.specs.Prelude.{◌≡◌, ◌≤◌};
-ghost use Rattle.cursor.specs.Cursor.{step, refuseIf};
+ghost use Rattle.cursor.specs.Cursor.{step, refuse_if};
 
 use bit_reader::{BitRead, read_field};
 
@@ -43,7 +43,7 @@ pub fn read(bytes: &[u8], limit: usize, c: Cursor, n: usize) -> Cursor
 
 // Refuses with the number e where the test `bad` holds; a refusal that is there stays.
 pub fn refuse_if(c: Cursor, bad: bool, e: u32) -> Cursor
-    ensures { result ≡ refuseIf c bad e }
+    ensures { result ≡ refuse_if c bad e }
 {
     if c.err != 0 {
         return c;

@@ -1,9 +1,9 @@
 // The frame call on the bytes of a file.
 ghost use Rattle.std.specs.Prelude.{◌≡◌};
-ghost use Rattle.mc_state.specs.Answer.{buffersFrom, after_of, carryingOf};
+ghost use Rattle.mc_state.specs.Answer.{buffers_from, after_of, carrying_of};
 ghost use Rattle.mc_state.specs.Frame.{frame_of};
 ghost use Rattle.mc_fields.specs.Lent.{head_of};
-ghost use Rattle.frame_body.specs.Lent.{Whole, Cut, lentFrom, lentIn, layoutFor, firstState, secondState};
+ghost use Rattle.frame_body.specs.Lent.{Whole, Cut, lent_from, lent_in, layout_for, first_state, second_state};
 
 use encoding::{u8_at, u32_at};
 use frame_file::{Numbers, fill_steps, fill_values};
@@ -25,7 +25,7 @@ fn decode_parts(
     lfe: &mut [f64],
 ) -> Framed
     requires { Cut n body.now steps.now values.now }
-    ensures { after_of result (buffersFrom raw.new work.new output.new lfe.new) ≡ frame_of (lentFrom n body.now steps.now values.now) (buffersFrom raw.old work.old output.old lfe.old) state }
+    ensures { after_of result (buffers_from raw.new work.new output.new lfe.new) ≡ frame_of (lent_from n body.now steps.now values.now) (buffers_from raw.old work.old output.old lfe.old) state }
 {
     let channels = n.base_channels as usize;
     let head = 128 * channels + 384;
@@ -71,7 +71,7 @@ pub fn decode_body(
     lfe: &mut [f64],
 ) -> Framed
     requires { Whole n body.now }
-    ensures { after_of result (buffersFrom raw.new work.new output.new lfe.new) ≡ frame_of (lentIn n body.now) (buffersFrom raw.old work.old output.old lfe.old) state }
+    ensures { after_of result (buffers_from raw.new work.new output.new lfe.new) ≡ frame_of (lent_in n body.now) (buffers_from raw.old work.old output.old lfe.old) state }
 {
     let channels = n.base_channels as usize;
     let step_count = 32 * channels + 96;
@@ -96,7 +96,7 @@ pub fn decode_body(
 
 // The output channels of a head; none of a refused one.
 pub fn layout_of(head: &[u8], bits: usize, reading: u32, base_channels: u8) -> Layout
-    ensures { result ≡ layoutFor (head_of reading head.now bits base_channels) base_channels }
+    ensures { result ≡ layout_for (head_of reading head.now bits base_channels) base_channels }
 {
     let found = read_head(head, bits, reading, base_channels);
     let answer = found.answer;
@@ -114,7 +114,7 @@ pub fn layout_of(head: &[u8], bits: usize, reading: u32, base_channels: u8) -> L
 
 // The state of a file of the first version, converted: it has a count and one tally.
 pub fn first_state(bytes: &[u8]) -> CarriedState
-    ensures { carryingOf result.answer result.state ≡ firstState bytes.now }
+    ensures { carrying_of result.answer result.state ≡ first_state bytes.now }
 {
     let mut history = [0.0f64; 576];
     fill_values(bytes, 5, &mut history);
@@ -125,7 +125,7 @@ pub fn first_state(bytes: &[u8]) -> CarriedState
 
 // The state of a file of the second version.
 pub fn second_state(bytes: &[u8]) -> McDecodeState
-    ensures { result ≡ secondState bytes.now }
+    ensures { result ≡ second_state bytes.now }
 {
     let mut tallies = [0u32; 8];
     fill_steps(bytes, &mut tallies);

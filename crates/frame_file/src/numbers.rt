@@ -2,7 +2,7 @@
 ghost use Rattle.std.specs.Prelude.{◌≡◌, ◌+◌, ◌*◌, ◌≤◌, length};
 ghost use Rattle.encoding.specs.Encoding.{number_at};
 ghost use Rattle.fill.specs.Tab.{tab};
-ghost use Rattle.frame_file.specs.File.{versionOf, openingFault, numberBytes, numbersFrom, numbersOf, faultOf, bodyBytes, stepAt, value_at};
+ghost use Rattle.frame_file.specs.File.{version_of, opening_fault, number_bytes, numbers_from, numbers_of, fault_of, body_bytes, step_at, value_at};
 
 use encoding::{float_of, number_at, u8_at, u32_at};
 
@@ -53,7 +53,7 @@ pub struct Numbers {
 
 // The version of a file by its letters, 0 for none.
 pub fn version_of(bytes: &[u8]) -> u32
-    ensures { result ≡ versionOf bytes.now }
+    ensures { result ≡ version_of bytes.now }
 {
     let letters = number_at(bytes, 0, 8);
     if letters == FIRST {
@@ -64,7 +64,7 @@ pub fn version_of(bytes: &[u8]) -> u32
 
 // What is wrong with the bytes of an opening, all that could be read of them.
 pub fn opening_fault(bytes: &[u8]) -> u32
-    ensures { result ≡ openingFault bytes.now }
+    ensures { result ≡ opening_fault bytes.now }
 {
     if bytes.len() == 0 {
         return EMPTY;
@@ -83,7 +83,7 @@ pub fn opening_fault(bytes: &[u8]) -> u32
 
 // The bytes of a frame's numbers.
 pub fn number_bytes(version: u32) -> usize
-    ensures { (result ≡ numberBytes version) × (result ≤ 32) }
+    ensures { (result ≡ number_bytes version) × (result ≤ 32) }
 {
     if version == 2 { 32 } else { 22 }
 }
@@ -91,7 +91,7 @@ pub fn number_bytes(version: u32) -> usize
 // The numbers of both versions, from the byte `at` on, after those of the second.
 fn numbers_from(call: u8, carried: u8, reading: u32, desk: u32, bytes: &[u8], at: usize) -> Numbers
     requires { at ≤ 10 }
-    ensures { result ≡ numbersFrom call carried reading desk bytes.now at }
+    ensures { result ≡ numbers_from call carried reading desk bytes.now at }
 {
     Numbers {
         call,
@@ -109,7 +109,7 @@ fn numbers_from(call: u8, carried: u8, reading: u32, desk: u32, bytes: &[u8], at
 }
 
 pub fn numbers_of(version: u32, bytes: &[u8]) -> Numbers
-    ensures { result ≡ numbersOf version bytes.now }
+    ensures { result ≡ numbers_of version bytes.now }
 {
     if version == 2 {
         numbers_from(
@@ -127,7 +127,7 @@ pub fn numbers_of(version: u32, bytes: &[u8]) -> Numbers
 
 // What keeps the rest of a frame from being read: the first of its numbers that no frame may have.
 pub fn fault_of(n: Numbers) -> u32
-    ensures { result ≡ faultOf n }
+    ensures { result ≡ fault_of n }
 {
     if n.call != 1 {
         return CALL;
@@ -152,8 +152,8 @@ pub fn fault_of(n: Numbers) -> u32
 
 // The bytes of a frame after its numbers.
 pub fn body_bytes(n: Numbers) -> usize
-    requires { faultOf n ≡ 0 }
-    ensures value { result ≡ bodyBytes n }
+    requires { fault_of n ≡ 0 }
+    ensures value { result ≡ body_bytes n }
     ensures upper_bound { result ≤ 53888 }
 {
     let channels = n.base_channels as usize;
@@ -163,7 +163,7 @@ pub fn body_bytes(n: Numbers) -> usize
 // Reads step counts of four bytes.
 pub fn fill_steps(bytes: &[u8], out: &mut [u32])
     requires { length out.old ≤ 160 }
-    ensures { out.new ≡ tab (stepAt bytes.now) (length out.old) }
+    ensures { out.new ≡ tab (step_at bytes.now) (length out.old) }
 {
     let mut k: usize = 0;
     while k < out.len() {

@@ -1,6 +1,6 @@
 // What is said of a channel's values, and a value as a decimal number.
 ghost use Rattle.std.specs.Prelude.{◌≡◌, ◌%◌};
-ghost use Rattle.frame_summary.specs.Summary.{magnitude as Summary·magnitude, peakOf, nonzeroOf, whole_of, millionthsOf, summaryOf, last_digits, hex_digit_ascii};
+ghost use Rattle.frame_summary.specs.Summary.{magnitude as Summary·magnitude, peak_of, nonzero_of, whole_of, millionths_of, summary_of, last_digits, hex_digit_ascii};
 
 use hash::hash_floats;
 
@@ -22,7 +22,7 @@ fn magnitude(x: f64) -> f64
 
 // The largest magnitude.
 fn peak(xs: &[f64]) -> f64
-    ensures { result ≡ peakOf xs.now }
+    ensures { result ≡ peak_of xs.now }
 {
     let mut most = 0.0;
     let mut i: usize = 0;
@@ -38,7 +38,7 @@ fn peak(xs: &[f64]) -> f64
 
 // How many values are not 0.
 fn nonzero(xs: &[f64]) -> usize
-    ensures { result ≡ nonzeroOf xs.now }
+    ensures { result ≡ nonzero_of xs.now }
 {
     let mut count: usize = 0;
     let mut i: usize = 0;
@@ -52,7 +52,7 @@ fn nonzero(xs: &[f64]) -> usize
 }
 
 pub fn summary_of(xs: &[f64]) -> Summary
-    ensures { result ≡ summaryOf xs.now }
+    ensures { result ≡ summary_of xs.now }
 {
     Summary {
         peak: peak(xs),
@@ -75,7 +75,7 @@ fn whole_of(x: f64) -> u64
 
 // The whole part of a value's magnitude times 1,000,000, the product rounded once.
 pub fn millionths_of(x: f64) -> u64
-    ensures { result ≡ millionthsOf x }
+    ensures { result ≡ millionths_of x }
 {
     whole_of(magnitude(x) * 1000000.0)
 }

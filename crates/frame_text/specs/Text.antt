@@ -1,7 +1,7 @@
 -- The words that are printed, as bytes. Definitions only.
 use Rattle.std.specs.Prelude.{◌≡◌, cond, List, ℕ, ◌≤◌, eqb, length, take}
 use Rattle.fill.specs.Ascii.{ascii}
-use Rattle.mc_config.specs.Config.{left, right, centre, leftSurround, rightSurround, monoSurround, secondLeft}
+use Rattle.mc_config.specs.Config.{left, right, centre, left_surround, right_surround, mono_surround, second_left}
 use Rattle.mc_error.specs.declared.McError.{McError}
 use Rattle.mc_error.specs.declared.McError.TheVariants.{UnexpectedEnd, ForbiddenDynCrossMode, MlLayer3Unsupported, ReservedScalefactor, ConfigChanged, InvalidArgument, ValueOutOfRange, InvalidAllocation, UndefinedCentre, InvalidDesk}
 use Rattle.frame_text.specs.declared.text.Text.{Text}
@@ -18,10 +18,10 @@ name_of channel =
     cond (eqb channel left) (ascii "L")
     (cond (eqb channel right) (ascii "R")
     (cond (eqb channel centre) (ascii "C")
-    (cond (eqb channel leftSurround) (ascii "LS")
-    (cond (eqb channel rightSurround) (ascii "RS")
-    (cond (eqb channel monoSurround) (ascii "S")
-    (cond (eqb channel secondLeft) (ascii "L2") (ascii "R2")))))))
+    (cond (eqb channel left_surround) (ascii "LS")
+    (cond (eqb channel right_surround) (ascii "RS")
+    (cond (eqb channel mono_surround) (ascii "S")
+    (cond (eqb channel second_left) (ascii "L2") (ascii "R2")))))))
 
 -- what is wrong with a refused frame
 unfoldable pub words_of : McError → List ℕ

@@ -2,7 +2,7 @@
 #![tactic(auto)]
 
 ghost use Rattle.std.specs.Prelude.{◌≡◌, ◌*◌, ◌%◌};
-ghost use Rattle.encoding.specs.Encoding.{hashByte, hashNumber, hashFloats};
+ghost use Rattle.encoding.specs.Encoding.{hash_byte, hash_number, hash_floats};
 
 use encoding::bits_of;
 
@@ -18,14 +18,14 @@ fn times_prime(h: u64) -> u64
 
 // The hash h, one byte more.
 fn hash_byte(h: u64, byte: u64) -> u64
-    ensures { result ≡ hashByte h byte }
+    ensures { result ≡ hash_byte h byte }
 {
     times_prime(h ^ byte)
 }
 
 // The hash h, the eight bytes of n more.
 pub fn hash_number(h: u64, n: u64) -> u64
-    ensures { result ≡ hashNumber h n }
+    ensures { result ≡ hash_number h n }
 {
     let mut hash = h;
     let mut rest = n;
@@ -40,7 +40,7 @@ pub fn hash_number(h: u64, n: u64) -> u64
 
 // The hash h, the bit patterns of all floats more.
 pub fn hash_floats(h: u64, xs: &[f64]) -> u64
-    ensures { result ≡ hashFloats h xs.now }
+    ensures { result ≡ hash_floats h xs.now }
 {
     let mut hash = h;
     let mut i = 0usize;

@@ -4,13 +4,13 @@
 
 ghost use Rattle.std.specs.Prelude.{◌≡◌, ◌<◌, ◌≤◌, ◌^◌, ltb};
 ghost use Rattle.requant.specs.Requant.{degrouped};
-ghost use Rattle.leaves.specs.Leaves.{scalefactorLeaf, requantizeLeaf, packed, degroupLeaf, lfeLeaf, coefficientLeaf};
+ghost use Rattle.leaves.specs.Leaves.{scalefactor_leaf, requantize_leaf, packed, degroup_leaf, lfe_leaf, coefficient_leaf};
 
 use bitalloc::class_or_zero;
 
 #[unsafe(no_mangle)]
 pub extern "C" fn mc_leaf_scalefactor(index: u32) -> f64
-    ensures { result ≡ scalefactorLeaf index }
+    ensures { result ≡ scalefactor_leaf index }
 {
     if index < 63 {
         tables::scalefactor(index as usize)
@@ -30,7 +30,7 @@ fn has_bits(code: u32, n: u32) -> bool
 
 #[unsafe(no_mangle)]
 pub extern "C" fn mc_leaf_requantize_code(nb_steps: u32, code: u32) -> f64
-    ensures { result ≡ requantizeLeaf nb_steps code }
+    ensures { result ≡ requantize_leaf nb_steps code }
 {
     let index = bitalloc::class_index(nb_steps);
     if bitalloc::CLASS_COUNT <= index {
@@ -55,7 +55,7 @@ fn degroup_packed(nb_steps: u32, combined: u32) -> u32
 
 #[unsafe(no_mangle)]
 pub extern "C" fn mc_leaf_degroup(nb_steps: u32, combined: u32) -> u32
-    ensures { result ≡ degroupLeaf nb_steps combined }
+    ensures { result ≡ degroup_leaf nb_steps combined }
 {
     let class = class_or_zero(nb_steps);
     let grouping = class.grouping;
@@ -71,7 +71,7 @@ pub extern "C" fn mc_leaf_degroup(nb_steps: u32, combined: u32) -> u32
 
 #[unsafe(no_mangle)]
 pub extern "C" fn mc_leaf_requantize_lfe(allocation: u32, scalefactor: u32, code: u32) -> f64
-    ensures { result ≡ lfeLeaf allocation scalefactor code }
+    ensures { result ≡ lfe_leaf allocation scalefactor code }
 {
     if allocation < 1 {
         return 0.0;
@@ -91,7 +91,7 @@ pub extern "C" fn mc_leaf_requantize_lfe(allocation: u32, scalefactor: u32, code
 
 #[unsafe(no_mangle)]
 pub extern "C" fn mc_leaf_pred_coef(byte: u32) -> f64
-    ensures { result ≡ coefficientLeaf byte }
+    ensures { result ≡ coefficient_leaf byte }
 {
     if byte < 256 {
         requant::pred_coef(byte as u8)

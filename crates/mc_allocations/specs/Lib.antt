@@ -1,2 +1,1 @@
 pub mod AllocationsBy
-pub mod AllocationsLaws

@@ -1,11 +1,11 @@
 // The frame from its payload on: the payload is read, then the layout is tested, and only then is anything written.
 ghost use Rattle.std.specs.Prelude.{◌≡◌, ◌≤◌};
-ghost use Rattle.mc_payload.specs.Unpack.{loanBy, settingsOf};
+ghost use Rattle.mc_payload.specs.Unpack.{loan_by, settings_of};
 ghost use Rattle.mc_output.specs.Output.{channels};
-ghost use Rattle.mc_base.specs.Base.{baseFrom};
-ghost use Rattle.mc_state.specs.Answer.{buffersFrom, after_of};
-ghost use Rattle.mc_state.specs.Frame.{afterUnpacked};
-ghost use Rattle.mc_state.specs.Held.{layoutFor};
+ghost use Rattle.mc_base.specs.Base.{base_from};
+ghost use Rattle.mc_state.specs.Answer.{buffers_from, after_of};
+ghost use Rattle.mc_state.specs.Frame.{after_unpacked};
+ghost use Rattle.mc_state.specs.Held.{layout_for};
 ghost use Rattle.mc_state.specs.Long.{Long};
 
 use crate::write::{finish_payload, write_samples};
@@ -29,7 +29,7 @@ struct FrameLayout {
 
 fn frame_layout(s: McSettings) -> FrameLayout
     requires { s.header.surround ≤ 3 }
-    ensures { (result.count ≡ channels s) × (result.number ≡ layoutFor s) }
+    ensures { (result.count ≡ channels s) × (result.number ≡ layout_for s) }
 {
     let config = McConfig::from_header(s.header, s.base_channels);
     FrameLayout {
@@ -62,9 +62,9 @@ pub fn unpacked_frame<'a>(
     output: &mut [f64],
     lfe: &mut [f64],
 ) -> Framed
-    requires long { Long base_channels (baseFrom raw_left.now raw_right.now scaled_left.now scaled_right.now) (buffersFrom raw.old work.old output.old lfe.old) }
+    requires long { Long base_channels (base_from raw_left.now raw_right.now scaled_left.now scaled_right.now) (buffers_from raw.old work.old output.old lfe.old) }
     requires low { (lfe_allocation ≤ 15) × (header.surround ≤ 3) × (desk ≤ 7) }
-    ensures { after_of result (buffersFrom raw.new work.new output.new lfe.new) ≡ afterUnpacked state desk (settingsOf (loanBy reading rate base_channels header status lfe_allocation nb_steps.now base_nb_steps.now)) head_bits payload.now payload_bits (baseFrom raw_left.now raw_right.now scaled_left.now scaled_right.now) (buffersFrom raw.old work.old output.old lfe.old) }
+    ensures { after_of result (buffers_from raw.new work.new output.new lfe.new) ≡ after_unpacked state desk (settings_of (loan_by reading rate base_channels header status lfe_allocation nb_steps.now base_nb_steps.now)) head_bits payload.now payload_bits (base_from raw_left.now raw_right.now scaled_left.now scaled_right.now) (buffers_from raw.old work.old output.old lfe.old) }
 {
     let s = settings(
         reading,

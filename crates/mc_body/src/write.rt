@@ -2,11 +2,11 @@
 ghost use Rattle.std.specs.Prelude.{◌≡◌, ◌≤◌, ◌<◌, length};
 ghost use Rattle.mc_codes.specs.Outcome.{codes_of};
 ghost use Rattle.mc_places.specs.PlacesBy.{places_of};
-ghost use Rattle.mc_payload.specs.Record.{rawOf, lfeOf, recordOf};
-ghost use Rattle.mc_unpack.specs.SettledLaws.{Writable};
-ghost use Rattle.mc_base.specs.Base.{baseFrom};
+ghost use Rattle.mc_payload.specs.Record.{raw_of, lfe_of, record_of};
+ghost use Rattle.mc_unpack.specs.Writable.{Writable};
+ghost use Rattle.mc_base.specs.Base.{base_from};
 ghost use Rattle.mc_finish.specs.Finish.{BaseFits};
-ghost use Rattle.mc_output.specs.Output.{workOf, outputOf};
+ghost use Rattle.mc_output.specs.Output.{work_of, output_of};
 ghost use Rattle.mc_state.specs.Long.{Delayed};
 
 use mc_finish::finish;
@@ -18,7 +18,7 @@ use mc_values::{coefs, delays};
 // Raw and LFE values.
 pub fn write_samples(s: McSettings, p: McPayload, raw: &mut [f64], lfe: &mut [f64])
     requires { (length raw.old ≡ 3456) × (length lfe.old ≡ 12) × (p.places ≡ places_of s) × (s.lfe_allocation ≤ 15) × Writable s (codes_of p.codes) }
-    ensures { (raw.new ≡ rawOf s (codes_of p.codes)) × (lfe.new ≡ lfeOf s.lfe_allocation (codes_of p.codes)) }
+    ensures { (raw.new ≡ raw_of s (codes_of p.codes)) × (lfe.new ≡ lfe_of s.lfe_allocation (codes_of p.codes)) }
 {
     write_raw(&p.places.own, &p.codes.granules, raw);
     write_lfe(
@@ -42,9 +42,9 @@ pub fn finish_payload<'a>(
     work: &mut [f64],
     output: &mut [f64],
 )
-    requires recorded { (raw.now ≡ rawOf s (codes_of p.codes)) × (p.places ≡ places_of s) × Writable s (codes_of p.codes) × Delayed p.codes.predictors }
-    requires base_fits { BaseFits s (baseFrom raw_left.now raw_right.now scaled_left.now scaled_right.now) × (length work.old ≡ 3456) × (length output.old ≡ 5760) }
-    ensures { (work.new ≡ workOf s (recordOf s (codes_of p.codes)) (baseFrom raw_left.now raw_right.now scaled_left.now scaled_right.now) history.now) × (output.new ≡ outputOf s (baseFrom raw_left.now raw_right.now scaled_left.now scaled_right.now) work.new) }
+    requires recorded { (raw.now ≡ raw_of s (codes_of p.codes)) × (p.places ≡ places_of s) × Writable s (codes_of p.codes) × Delayed p.codes.predictors }
+    requires base_fits { BaseFits s (base_from raw_left.now raw_right.now scaled_left.now scaled_right.now) × (length work.old ≡ 3456) × (length output.old ≡ 5760) }
+    ensures { (work.new ≡ work_of s (record_of s (codes_of p.codes)) (base_from raw_left.now raw_right.now scaled_left.now scaled_right.now) history.now) × (output.new ≡ output_of s (base_from raw_left.now raw_right.now scaled_left.now scaled_right.now) work.new) }
 {
     let steps = p.places.steps;
     let source = p.places.source;

@@ -1,8 +1,8 @@
 // The frame call and carrying on a state that is lent: the state is updated in place.
 ghost use Rattle.std.specs.Prelude.{◌≡◌};
-ghost use Rattle.mc_base.specs.Base.{baseFrom};
-ghost use Rattle.mc_state.specs.Answer.{lent_of, buffersFrom, afterBy, carryingOf};
-ghost use Rattle.mc_state.specs.Carry.{carriedOver};
+ghost use Rattle.mc_base.specs.Base.{base_from};
+ghost use Rattle.mc_state.specs.Answer.{lent_of, buffers_from, after_by, carrying_of};
+ghost use Rattle.mc_state.specs.Carry.{carried_over};
 ghost use Rattle.mc_state.specs.Frame.{frame_of};
 
 use mc_decode::frame_by_value;
@@ -31,7 +31,7 @@ pub fn decode_mc_frame<'s, 'h, 'p, 'a, 'b, 'n, 'r, 'w, 'o, 'l>(
     output: &'o mut [f64],
     lfe: &'l mut [f64],
 ) -> McAnswer
-    ensures { afterBy result state.new (buffersFrom raw.new work.new output.new lfe.new) ≡ frame_of (lent_of head.now head_bits payload.now payload_bits reading desk rate base_channels (baseFrom raw_left.now raw_right.now scaled_left.now scaled_right.now) base_nb_steps.now lfe_allocation nb_steps.now) (buffersFrom raw.old work.old output.old lfe.old) state.old }
+    ensures { after_by result state.new (buffers_from raw.new work.new output.new lfe.new) ≡ frame_of (lent_of head.now head_bits payload.now payload_bits reading desk rate base_channels (base_from raw_left.now raw_right.now scaled_left.now scaled_right.now) base_nb_steps.now lfe_allocation nb_steps.now) (buffers_from raw.old work.old output.old lfe.old) state.old }
 {
     let t = frame_by_value(
         *state,
@@ -61,7 +61,7 @@ pub fn decode_mc_frame<'s, 'h, 'p, 'a, 'b, 'n, 'r, 'w, 'o, 'l>(
 
 // Carries the state over to another reading: of a layout it keeps the count. A refusal, 6 for a wrong count or layout, leaves the state as it was.
 pub fn carry_mc_state<'s>(state: &'s mut McDecodeState) -> CarryAnswer
-    ensures { carryingOf result state.new ≡ carriedOver state.old }
+    ensures { carrying_of result state.new ≡ carried_over state.old }
 {
     let t = (*state).carry();
     *state = t.state;

@@ -1,8 +1,8 @@
 // What a frame call checks before it reads a bit.
 ghost use Rattle.std.specs.Prelude.{◌≡◌, ℕ};
-ghost use Rattle.mc_base.specs.Base.{baseFrom};
+ghost use Rattle.mc_base.specs.Base.{base_from};
 ghost use Rattle.mc_state.specs.Answer.{lent_of};
-ghost use Rattle.mc_state.specs.Frame.{rightLength, valuesLong, roomFits, lent_by, all_fit, valuesFit};
+ghost use Rattle.mc_state.specs.Frame.{right_length, values_long, room_fits, lent_by, all_fit, values_fit};
 
 use mc_fields::string_fits;
 use mc_loan::loan_fits;
@@ -30,7 +30,7 @@ pub fn values_fit(
     scaled_right: &[f64],
     history: &[f64; 576],
 ) -> bool
-    ensures { result ≡ valuesFit (baseFrom raw_left.now raw_right.now scaled_left.now scaled_right.now) history.now }
+    ensures { result ≡ values_fit (base_from raw_left.now raw_right.now scaled_left.now scaled_right.now) history.now }
 {
     all_fit(raw_left)
         & (all_fit(raw_right) & (all_fit(scaled_left) & (all_fit(scaled_right) & all_fit(history))))
@@ -38,7 +38,7 @@ pub fn values_fit(
 
 // Values of a second base channel.
 fn right_length(base_channels: u8) -> usize
-    ensures { result ≡ rightLength base_channels }
+    ensures { result ≡ right_length base_channels }
 {
     if base_channels == 1 { 0 } else { 1152 }
 }
@@ -50,14 +50,14 @@ fn values_long(
     scaled_left: usize,
     scaled_right: usize,
 ) -> bool
-    ensures { result ≡ valuesLong base_channels raw_left raw_right scaled_left scaled_right }
+    ensures { result ≡ values_long base_channels raw_left raw_right scaled_left scaled_right }
 {
     let right = right_length(base_channels);
     (raw_left == 1152) & ((raw_right == right) & ((scaled_left == 1152) & (scaled_right == right)))
 }
 
 fn room_fits(raw: usize, work: usize, output: usize, lfe: usize) -> bool
-    ensures { result ≡ roomFits raw work output lfe }
+    ensures { result ≡ room_fits raw work output lfe }
 {
     (raw == 3456) & ((work == 3456) & ((output == 5760) & (lfe == 12)))
 }
@@ -85,7 +85,7 @@ pub fn lent_fits(
     count: u8,
     layout: u8,
 ) -> bool
-    ensures { (desk : ℕ) → result ≡ lent_by (lent_of head.now head_bits payload.now payload_bits reading desk rate base_channels (baseFrom raw_left.now raw_right.now scaled_left.now scaled_right.now) base_nb_steps.now lfe_allocation nb_steps.now) raw work output lfe count layout }
+    ensures { (desk : ℕ) → result ≡ lent_by (lent_of head.now head_bits payload.now payload_bits reading desk rate base_channels (base_from raw_left.now raw_right.now scaled_left.now scaled_right.now) base_nb_steps.now lfe_allocation nb_steps.now) raw work output lfe count layout }
 {
     let strings = string_fits(head, head_bits);
     let payloads = string_fits(payload, payload_bits);

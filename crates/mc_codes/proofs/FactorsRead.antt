@@ -8,12 +8,12 @@ use lib.Dec.{eqb, lit<}
 use lib.ListN.{get_or, set}
 use borrow.Author.Tests.{eq-eqb, ne_eqb}
 use Rattle.bits.specs.Syntax.{plain, Syntax, Outcome, done, refuse, field, bind, times}
-use Rattle.cursor.specs.Cursor.{step, refuseIf, run_from}
-use Rattle.cursor.specs.CursorLaws.{advance, tested, refuse-value, step_small, goes-on-from, loop-next, times-over}
+use Rattle.cursor.specs.Cursor.{step, refuse_if, run_from}
+use Rattle.cursor.proofs.CursorLaws.{advance, tested, refuse-value, step_small, goes-on-from, loop-next, times-over}
 use Rattle.cursor.specs.Ran.{Ran}
 use Rattle.bits.specs.Table.{set3}
 use Rattle.cursor.specs.declared.Cursor.{Cursor}
-use Rattle.mc_payload.specs.Payload.{factor, lfScalefactor, factorsBy, factorsAt, scalefactors}
+use Rattle.mc_payload.specs.Payload.{factor, lf_scalefactor, factors_by, factors_at, scalefactors}
 
 -- a scalefactor index and what follows, as two parts
 factor-bind : {A : Type 0} (k : ℕ → Syntax A) → factor k ≡ bind (factor (λ v. done v)) k
@@ -24,8 +24,8 @@ factor-bind k = ap (field 6) (fun_ext (λ v. by (eqb v 63) v))
     by true v = refl
     by false v = refl
 
-refused-small : (c : Cursor) (bad : Bool) (e : ℕ) {n : ℕ} → 0 < n → c.value < n → (refuseIf c bad e).value < n
-unfolding refuseIf
+refused-small : (c : Cursor) (bad : Bool) (e : ℕ) {n : ℕ} → 0 < n → c.value < n → (refuse_if c bad e).value < n
+unfolding refuse_if
 refused-small c bad e {n} z h = go (eqb c.err 0) bad
   where
     go : (t u : Bool) → (cond t (cond u (record { err = e; at = c.at; value = 0 }) c) c).value < n
@@ -36,7 +36,7 @@ refused-small c bad e {n} z h = go (eqb c.err 0) bad
 module _ (bytes : List ℕ) (limit : ℕ) where
   -- ---- one index
 
-  pub factor-ran : (c d r : Cursor) → d ≡ step bytes limit c 6 → r ≡ refuseIf d (eqb d.value 63) 4 → Ran bytes limit c (factor (λ v. done v)) r r.value
+  pub factor-ran : (c d r : Cursor) → d ≡ step bytes limit c 6 → r ≡ refuse_if d (eqb d.value 63) 4 → Ran bytes limit c (factor (λ v. done v)) r r.value
   unfolding factor
   factor-ran c d r e f =
       record {
@@ -45,7 +45,7 @@ module _ (bytes : List ℕ) (limit : ℕ) where
             (refuse-value bytes limit d (eqb d.value 63) 4 (λ z. omega arith));
       }
 
-  pub factor-small : (c d r : Cursor) → d ≡ step bytes limit c 6 → r ≡ refuseIf d (eqb d.value 63) 4 → r.value < 64
+  pub factor-small : (c d r : Cursor) → d ≡ step bytes limit c 6 → r ≡ refuse_if d (eqb d.value 63) 4 → r.value < 64
   factor-small c d r e f = rw f (refused-small d (eqb d.value 63) 4 (lit< tt) (rw e (step_small bytes limit c 6)))
 
   -- and what follows it
@@ -55,13 +55,13 @@ module _ (bytes : List ℕ) (limit : ℕ) where
   -- ---- the three indices of a place
 
   module _ (c x : Cursor) (code : ℕ) (ex : Ran bytes limit c (factor (λ v. done v)) x x.value) where
-    pub factors-2 : code ≡ 2 → (i : ℕ) (a : List ℕ) → Ran bytes limit c (factorsBy code i a) x (set3 a (3 * i) x.value x.value x.value)
-    unfolding factorsBy
+    pub factors-2 : code ≡ 2 → (i : ℕ) (a : List ℕ) → Ran bytes limit c (factors_by code i a) x (set3 a (3 * i) x.value x.value x.value)
+    unfolding factors_by
     factors-2 z i a = record { same = rw z (goes_on c x (λ x. done (set3 a (3 * i) x x x)) ex) }
 
     module _ (z₂ : code ≡ 2 → ⊥) (y : Cursor) (ey : Ran bytes limit x (factor (λ v. done v)) y y.value) where
-      pub factors-1 : code ≡ 1 → (i : ℕ) (a : List ℕ) → Ran bytes limit c (factorsBy code i a) y (set3 a (3 * i) x.value x.value y.value)
-      unfolding factorsBy
+      pub factors-1 : code ≡ 1 → (i : ℕ) (a : List ℕ) → Ran bytes limit c (factors_by code i a) y (set3 a (3 * i) x.value x.value y.value)
+      unfolding factors_by
       factors-1 z i a =
           record {
             same =
@@ -69,8 +69,8 @@ module _ (bytes : List ℕ) (limit : ℕ) where
                 (goes_on c x (λ x. factor (λ y. done (set3 a (3 * i) x x y))) ex ∙ goes_on x y (λ y. done (set3 a (3 * i) x.value x.value y)) ey);
           }
 
-      pub factors-3 : (code ≡ 1 → ⊥) → (code ≡ 0 → ⊥) → (i : ℕ) (a : List ℕ) → Ran bytes limit c (factorsBy code i a) y (set3 a (3 * i) x.value y.value y.value)
-      unfolding factorsBy
+      pub factors-3 : (code ≡ 1 → ⊥) → (code ≡ 0 → ⊥) → (i : ℕ) (a : List ℕ) → Ran bytes limit c (factors_by code i a) y (set3 a (3 * i) x.value y.value y.value)
+      unfolding factors_by
       factors-3 z₁ z₀ i a =
           record {
             same =
@@ -79,8 +79,8 @@ module _ (bytes : List ℕ) (limit : ℕ) where
           }
 
       pub factors-0 : code ≡ 0 → (z : Cursor) → Ran bytes limit y (factor (λ v. done v)) z z.value
-          → (i : ℕ) (a : List ℕ) → Ran bytes limit c (factorsBy code i a) z (set3 a (3 * i) x.value y.value z.value)
-      unfolding factorsBy
+          → (i : ℕ) (a : List ℕ) → Ran bytes limit c (factors_by code i a) z (set3 a (3 * i) x.value y.value z.value)
+      unfolding factors_by
       factors-0 z₀ z ez i a =
           record {
             same =
@@ -92,29 +92,29 @@ module _ (bytes : List ℕ) (limit : ℕ) where
 
   -- ---- the LFE channel's index
 
-  pub lf-none : (c : Cursor) (lfe : ℕ) → lfe ≡ 0 → Ran bytes limit c (lfScalefactor lfe) (record { err = c.err; at = c.at; value = 0 }) 0
-  unfolding lfScalefactor run_from
+  pub lf-none : (c : Cursor) (lfe : ℕ) → lfe ≡ 0 → Ran bytes limit c (lf_scalefactor lfe) (record { err = c.err; at = c.at; value = 0 }) 0
+  unfolding lf_scalefactor run_from
   lf-none c lfe z = record { same = rw z }
 
-  pub lf-read : (c r : Cursor) (lfe : ℕ) → (lfe ≡ 0 → ⊥) → Ran bytes limit c (factor (λ v. done v)) r r.value → Ran bytes limit c (lfScalefactor lfe) r r.value
-  unfolding lfScalefactor
+  pub lf-read : (c r : Cursor) (lfe : ℕ) → (lfe ≡ 0 → ⊥) → Ran bytes limit c (factor (λ v. done v)) r r.value → Ran bytes limit c (lf_scalefactor lfe) r r.value
+  unfolding lf_scalefactor
   lf-read c r lfe z e = record { same = rw (ne_eqb lfe 0 z) e.same }
 
   -- ---- the loop; `whole` is the outcome of all 96 places
 
   module _ (steps codes : List ℕ) where
-    module _ (whole : Outcome (List ℕ)) (c : Cursor) (i : ℕ) (t : List ℕ) (inv : whole ≡ run_from bytes limit c (times (96 - i) i (factorsAt steps codes) t)) (h : i < 96) (c' : Cursor) (t' : List ℕ) where
-      pub factors-skip : get_or steps i 0 ≡ 0 → c' ≡ c → t' ≡ t → whole ≡ run_from bytes limit c' (times (96 - (i + 1)) (i + 1) (factorsAt steps codes) t')
-      unfolding factorsAt
-      factors-skip z ec et = rw (ec, et) (loop-next bytes limit whole c 96 i (factorsAt steps codes) t inv c t h (rw (eq-eqb (get_or steps i 0) 0 z)))
+    module _ (whole : Outcome (List ℕ)) (c : Cursor) (i : ℕ) (t : List ℕ) (inv : whole ≡ run_from bytes limit c (times (96 - i) i (factors_at steps codes) t)) (h : i < 96) (c' : Cursor) (t' : List ℕ) where
+      pub factors-skip : get_or steps i 0 ≡ 0 → c' ≡ c → t' ≡ t → whole ≡ run_from bytes limit c' (times (96 - (i + 1)) (i + 1) (factors_at steps codes) t')
+      unfolding factors_at
+      factors-skip z ec et = rw (ec, et) (loop-next bytes limit whole c 96 i (factors_at steps codes) t inv c t h (rw (eq-eqb (get_or steps i 0) 0 z)))
 
-      pub factors-read : (get_or steps i 0 ≡ 0 → ⊥) → (r : Cursor) (x y z : ℕ) → ((j : ℕ) (a : List ℕ) → Ran bytes limit c (factorsBy (get_or codes i 0) j a) r (set3 a (3 * j) x y z))
+      pub factors-read : (get_or steps i 0 ≡ 0 → ⊥) → (r : Cursor) (x y z : ℕ) → ((j : ℕ) (a : List ℕ) → Ran bytes limit c (factors_by (get_or codes i 0) j a) r (set3 a (3 * j) x y z))
           → c' ≡ r → t' ≡ set (set (set t (3 * i) x) (3 * i + 1) y) (3 * i + 2) z
-          → whole ≡ run_from bytes limit c' (times (96 - (i + 1)) (i + 1) (factorsAt steps codes) t')
-      unfolding factorsAt set3
+          → whole ≡ run_from bytes limit c' (times (96 - (i + 1)) (i + 1) (factors_at steps codes) t')
+      unfolding factors_at set3
       factors-read n r x y z e ec et =
-          rw (ec, et) (loop-next bytes limit whole c 96 i (factorsAt steps codes) t inv r _ h (rw (ne_eqb (get_or steps i 0) 0 n) (e i t).same))
+          rw (ec, et) (loop-next bytes limit whole c 96 i (factors_at steps codes) t inv r _ h (rw (ne_eqb (get_or steps i 0) 0 n) (e i t).same))
 
-    pub factors-end : (c r : Cursor) (i : ℕ) (t : List ℕ) → run_from bytes limit c (scalefactors steps codes) ≡ run_from bytes limit r (times (96 - i) i (factorsAt steps codes) t)
+    pub factors-end : (c r : Cursor) (i : ℕ) (t : List ℕ) → run_from bytes limit c (scalefactors steps codes) ≡ run_from bytes limit r (times (96 - i) i (factors_at steps codes) t)
         → 96 ≤ i → Ran bytes limit c (scalefactors steps codes) r t
-    factors-end c r i t inv h = record { same = inv ∙ times-over bytes limit r 96 i (factorsAt steps codes) t h }
+    factors-end c r i t inv h = record { same = inv ∙ times-over bytes limit r 96 i (factors_at steps codes) t h }

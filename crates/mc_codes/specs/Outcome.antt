@@ -8,5 +8,5 @@ abbrev pub codes_of : PayloadCodes → Codes
 codes_of r = (r.scfsi, (r.predictors, (r.lf_scalefactor, (r.scalefactors, r.granules))))
 
 -- where there is a refusal, the tables do not count
-unfoldable pub outcomeOf : PayloadCodes → Outcome Codes
-outcomeOf r = cond (eqb r.cursor.err 0) (accepted (codes_of r) r.cursor.at) (refused (plain r.cursor.err))
+unfoldable pub outcome_of : PayloadCodes → Outcome Codes
+outcome_of r = cond (eqb r.cursor.err 0) (accepted (codes_of r) r.cursor.at) (refused (plain r.cursor.err))

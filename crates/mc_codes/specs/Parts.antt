@@ -3,27 +3,27 @@ use Rattle.std.specs.Prelude.{◌≡◌, Bool, cond, List, ℕ, ◌+◌, ◌*◌
 use Rattle.bits.specs.Table.{set3}
 use Rattle.bits.specs.Syntax.{Syntax, done, field}
 use Rattle.fill.specs.Tab.{tab}
-use Rattle.bitalloc.specs.Classes.{grouped, bitsPerCodeword}
-use Rattle.mc_fields.specs.Head.{bitsIf}
+use Rattle.bitalloc.specs.Classes.{grouped, bits_per_codeword}
+use Rattle.mc_fields.specs.Head.{bits_if}
 
 -- predictor q with n coefficients, n not 0
-unfoldable pub predictorBy : ℕ → ℕ → List ℕ → Syntax (List ℕ)
-predictorBy n q a =
+unfoldable pub predictor_by : ℕ → ℕ → List ℕ → Syntax (List ℕ)
+predictor_by n q a =
     field 3
     (λ d. field 8
-    (λ x. field (bitsIf (ltb 1 n) 8)
-    (λ y. field (bitsIf (ltb 2 n) 8)
+    (λ x. field (bits_if (ltb 1 n) 8)
+    (λ y. field (bits_if (ltb 2 n) 8)
     (λ z. done (set3 (set a (4 * q) d) (4 * q + 1) x y z)))))
 
 -- one group code, or three codes, each of so many bits, from the index j on
-unfoldable pub samplesBy : Bool → ℕ → ℕ → List ℕ → Syntax (List ℕ)
-samplesBy group width j a =
+unfoldable pub samples_by : Bool → ℕ → ℕ → List ℕ → Syntax (List ℕ)
+samples_by group width j a =
     cond group (field width (λ v. done (set a j v)))
     (field width (λ x. field width (λ y. field width (λ z. done (set3 a j x y z)))))
 
 -- by place: the bits of a code, and whether it is a group code
-unfoldable pub widthsOf : List ℕ → List ℕ
-widthsOf own = tab (λ i. bitsPerCodeword (get_or own i 0)) 96
+unfoldable pub widths_of : List ℕ → List ℕ
+widths_of own = tab (λ i. bits_per_codeword (get_or own i 0)) 96
 
 unfoldable pub groups_of : List ℕ → List Bool
 groups_of own = tab (λ i. grouped (get_or own i 0)) 96

@@ -1,9 +1,9 @@
 // LFE and sample codes of the twelve granules (ISO/IEC 13818-3, 2.5.1.17).
 ghost use Rattle.std.specs.Prelude.{◌≡◌, ◌+◌, ◌≤◌, ◌<◌, length};
 ghost use Rattle.cursor.specs.Ran.{Ran};
-ghost use Rattle.bitalloc.specs.Classes.{grouped, bitsPerCodeword};
-ghost use Rattle.mc_payload.specs.Payload.{granuleAt, granules};
-ghost use Rattle.mc_codes.specs.Parts.{samplesBy, widthsOf, groups_of, NoneFrom};
+ghost use Rattle.bitalloc.specs.Classes.{grouped, bits_per_codeword};
+ghost use Rattle.mc_payload.specs.Payload.{granule_at, granules};
+ghost use Rattle.mc_codes.specs.Parts.{samples_by, widths_of, groups_of, NoneFrom};
 
 use bitalloc::ClassLookup;
 use cursor::Cursor;
@@ -17,7 +17,7 @@ struct Codeword {
 }
 
 fn codeword_of(nb_steps: u32) -> Codeword
-    ensures { (result.bits ≡ bitsPerCodeword nb_steps) × (result.grouped ≡ grouped nb_steps) }
+    ensures { (result.bits ≡ bits_per_codeword nb_steps) × (result.grouped ≡ grouped nb_steps) }
 {
     match bitalloc::class_of_quantization(nb_steps) {
         ClassLookup::Found(class) => Codeword {
@@ -38,7 +38,7 @@ struct Codewords {
 }
 
 fn codewords_of(own: &[u32; 96]) -> Codewords
-    ensures { (result.bits ≡ widthsOf own.now) × (result.grouped ≡ groups_of own.now) }
+    ensures { (result.bits ≡ widths_of own.now) × (result.grouped ≡ groups_of own.now) }
 {
     let mut bits = [0u8; 96];
     let mut grouped = [false; 96];
@@ -74,7 +74,7 @@ fn read_samples(
     codes: &mut [u16],
 ) -> Cursor
     requires { (n ≤ 16) × (j + 2 < length codes.old) }
-    ensures { Ran bytes.now limit c (samplesBy grouped n j codes.old) result codes.new }
+    ensures { Ran bytes.now limit c (samples_by grouped n j codes.old) result codes.new }
 {
     let width = n as usize;
     if grouped {
@@ -104,8 +104,8 @@ fn read_granule<'a>(
     codes: &mut [u16],
 ) -> Cursor
     requires room { (gr < 12) × (lfe ≤ 15) × (length codes.old ≡ 3468) }
-    requires tables { (widths.now ≡ widthsOf own.now) × (groups.now ≡ groups_of own.now) × NoneFrom own.now end }
-    ensures { Ran bytes.now limit c (granuleAt lfe own.now gr codes.old) result codes.new }
+    requires tables { (widths.now ≡ widths_of own.now) × (groups.now ≡ groups_of own.now) × NoneFrom own.now end }
+    ensures { Ran bytes.now limit c (granule_at lfe own.now gr codes.old) result codes.new }
 {
     let first = 289 * gr;
     let mut cursor = cursor::read(bytes, limit, c, bits_if(0 < lfe, lfe as usize + 1));

@@ -3,7 +3,7 @@ ghost use Rattle.std.specs.Prelude.{◌≡◌, ◌≤◌};
 ghost use Rattle.bits.specs.Syntax.{run};
 ghost use Rattle.cursor.specs.Ran.{Ran};
 ghost use Rattle.mc_payload.specs.Payload.{scfsi, payload};
-ghost use Rattle.mc_codes.specs.Outcome.{outcomeOf};
+ghost use Rattle.mc_codes.specs.Outcome.{outcome_of};
 
 use crate::granules::read_granules;
 use crate::predictors::read_predictors;
@@ -53,7 +53,7 @@ pub fn read_payload<'a>(
     own: &'a [u32; 96],
 ) -> PayloadCodes
     requires { lfe ≤ 15 }
-    ensures { run (payload layer3 lfe predsi.now steps.now own.now) bytes.now limit 0 ≡ outcomeOf result }
+    ensures { run (payload layer3 lfe predsi.now steps.now own.now) bytes.now limit 0 ≡ outcome_of result }
 {
     let start = Cursor {
         err: 0,

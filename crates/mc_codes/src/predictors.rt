@@ -3,7 +3,7 @@ ghost use Rattle.std.specs.Prelude.{List, ℕ, ◌+◌, ◌*◌, set};
 ghost use Rattle.cursor.specs.Ran.{Ran};
 ghost use Rattle.bits.specs.Table.{set3};
 ghost use Rattle.mc_payload.specs.Payload.{predictors};
-ghost use Rattle.mc_codes.specs.Parts.{predictorBy};
+ghost use Rattle.mc_codes.specs.Parts.{predictor_by};
 
 use cursor::Cursor;
 use mc_fields::bits_if;
@@ -20,7 +20,7 @@ struct PredictorCode {
 
 // A predictor of n coefficients, of which there is at least one.
 fn read_predictor(bytes: &[u8], limit: usize, c: Cursor, n: u8) -> PredictorCode
-    ensures { (q : ℕ) (a : List ℕ) → Ran bytes.now limit c (predictorBy n q a) result.cursor (set3 (set a (4 * q) result.delay) (4 * q + 1) result.first result.second result.third) }
+    ensures { (q : ℕ) (a : List ℕ) → Ran bytes.now limit c (predictor_by n q a) result.cursor (set3 (set a (4 * q) result.delay) (4 * q + 1) result.first result.second result.third) }
 {
     let d = cursor::read(bytes, limit, c, 3);
     let x = cursor::read(bytes, limit, d, 8);

@@ -3,7 +3,7 @@ ghost use Rattle.std.specs.Prelude.{List, ℕ, ◌*◌, ◌<◌};
 ghost use Rattle.bits.specs.Syntax.{done};
 ghost use Rattle.cursor.specs.Ran.{Ran};
 ghost use Rattle.bits.specs.Table.{set3};
-ghost use Rattle.mc_payload.specs.Payload.{factor, lfScalefactor, factorsBy, scalefactors};
+ghost use Rattle.mc_payload.specs.Payload.{factor, lf_scalefactor, factors_by, scalefactors};
 
 use cursor::Cursor;
 
@@ -17,7 +17,7 @@ fn read_scalefactor(bytes: &[u8], limit: usize, c: Cursor) -> Cursor
 }
 
 pub fn read_lf_scalefactor(bytes: &[u8], limit: usize, c: Cursor, lfe: u8) -> Cursor
-    ensures ran { Ran bytes.now limit c (lfScalefactor lfe) result result.value }
+    ensures ran { Ran bytes.now limit c (lf_scalefactor lfe) result result.value }
     ensures value_bound { result.value < 64 }
 {
     if lfe == 0 {
@@ -41,7 +41,7 @@ struct PlaceFactors {
 
 // The scalefactors of a place by its scfsi code.
 fn read_factors(bytes: &[u8], limit: usize, c: Cursor, code: u8) -> PlaceFactors
-    ensures { (i : ℕ) (a : List ℕ) → Ran bytes.now limit c (factorsBy code i a) result.cursor (set3 a (3 * i) result.first result.second result.third) }
+    ensures { (i : ℕ) (a : List ℕ) → Ran bytes.now limit c (factors_by code i a) result.cursor (set3 a (3 * i) result.first result.second result.third) }
 {
     let x = read_scalefactor(bytes, limit, c);
     let first = x.value as u8;

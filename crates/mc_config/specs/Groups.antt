@@ -2,5 +2,5 @@
 use Rattle.std.specs.Prelude.{cond, ℕ, ltb}
 
 -- the group of a subband
-unfoldable pub sbgrOf : ℕ → ℕ
-sbgrOf sb = cond (ltb sb 8) sb (cond (ltb sb 10) 8 (cond (ltb sb 12) 9 (cond (ltb sb 16) 10 11)))
+unfoldable pub sbgr_of : ℕ → ℕ
+sbgr_of sb = cond (ltb sb 8) sb (cond (ltb sb 10) 8 (cond (ltb sb 12) 9 (cond (ltb sb 16) 10 11)))

@@ -2,9 +2,3 @@ pub mod Config
 pub mod Groups
 pub mod Reading
 pub mod Records
-pub mod TableLaws
-pub mod CaseLaws
-pub mod ConfigLaws
-pub mod GroupsLaws
-pub mod ReadingLaws
-pub mod RecordsLaws

@@ -12,5 +12,5 @@ padded n filler xs = xs ++ replicate (n - length xs) filler
 abbrev pub laid : List ℕ → Layout
 laid xs = record { count = length xs; channels = padded 5 left xs }
 
-abbrev pub layoutRecord : McConfig → Layout
-layoutRecord c = laid (layout_of c)
+abbrev pub layout_record : McConfig → Layout
+layout_record c = laid (layout_of c)

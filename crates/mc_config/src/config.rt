@@ -1,6 +1,6 @@
 // The configuration that a header gives (ISO/IEC 13818-3, 2.5.2.13 and 2.5.2.15 A to G).
 ghost use Rattle.std.specs.Prelude.{◌≡◌, ◌+◌, ◌*◌};
-ghost use Rattle.mc_config.specs.Config.{frontOf, mainOf, tcBitsOf, crossBitsOf, pair_of, configOf};
+ghost use Rattle.mc_config.specs.Config.{front_of, main_of, tc_bits_of, cross_bits_of, pair_of, config_of};
 
 use crate::{McConfig, McHeader};
 
@@ -16,7 +16,7 @@ impl McConfig {
     pub const MAX_NMCH: usize = 3;
 
     pub fn from_header(h: McHeader, base_channels: u8) -> McConfig
-        ensures { result ≡ configOf h base_channels }
+        ensures { result ≡ config_of h base_channels }
     {
         let front = front_of(base_channels, h.centre);
         let mut surround = h.surround;
@@ -46,14 +46,14 @@ impl McConfig {
 
     // Channels of the extension that belong to the main programme.
     pub fn main_nmch(self) -> usize
-        ensures { result ≡ mainOf (pair_of self) }
+        ensures { result ≡ main_of (pair_of self) }
     {
         widths_of(self.pair()).0
     }
 }
 
 fn front_of(base_channels: u8, centre: u8) -> u8
-    ensures { result ≡ frontOf base_channels centre }
+    ensures { result ≡ front_of base_channels centre }
 {
     if base_channels == 1 {
         return 1;
@@ -75,7 +75,7 @@ fn pair_of(front: u8, surround: u8) -> u32
 struct Widths(usize, usize, usize);
 
 fn widths_of(pair: u32) -> Widths
-    ensures { (result.0 ≡ mainOf pair) × (result.1 ≡ tcBitsOf pair) × (result.2 ≡ crossBitsOf pair) }
+    ensures { (result.0 ≡ main_of pair) × (result.1 ≡ tc_bits_of pair) × (result.2 ≡ cross_bits_of pair) }
 {
     match pair {
         32 => Widths(3, 3, 4),

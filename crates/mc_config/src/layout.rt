@@ -1,7 +1,7 @@
 // The output channels of a configuration, in order (ISO/IEC 13818-3, 2.5.2.15).
 ghost use Rattle.std.specs.Prelude.{◌≡◌, List, [], ◌∷◌, ◌++◌, ℕ, ◌<◌};
-ghost use Rattle.mc_config.specs.Config.{frontChannels};
-ghost use Rattle.mc_config.specs.Records.{laid, layoutRecord};
+ghost use Rattle.mc_config.specs.Config.{front_channels};
+ghost use Rattle.mc_config.specs.Records.{laid, layout_record};
 
 use crate::McConfig;
 
@@ -45,7 +45,7 @@ impl Layout {
 impl McConfig {
     // Front, then surround or the second stereo programme.
     pub fn layout(self) -> Layout
-        ensures { result ≡ layoutRecord self }
+        ensures { result ≡ layout_record self }
     {
         let out = front_layout(self.front);
         let surround = self.surround;
@@ -64,7 +64,7 @@ impl McConfig {
 }
 
 fn front_layout(front: u8) -> Layout
-    ensures { result ≡ laid (frontChannels front) }
+    ensures { result ≡ laid (front_channels front) }
 {
     match front {
         1 => Layout {

@@ -1,26 +1,26 @@
 // The readings of the transfer guide, and what reading 2 says otherwise.
 ghost use Rattle.std.specs.Prelude.{◌≡◌};
-ghost use Rattle.mc_config.specs.Reading.{readingFits, centreStops, phantomOf};
+ghost use Rattle.mc_config.specs.Reading.{reading_fits, centre_stops, phantom_of};
 
 use crate::McConfig;
 
 // Reading 1 or 2.
 pub fn reading_fits(reading: u32) -> bool
-    ensures { result ≡ readingFits reading }
+    ensures { result ≡ reading_fits reading }
 {
     reading == 1 || reading == 2
 }
 
 // Whether a centre code must stop the frame: code 2, under reading 2.
 pub fn centre_stops(reading: u32, centre: u8) -> bool
-    ensures { result ≡ centreStops reading centre }
+    ensures { result ≡ centre_stops reading centre }
 {
     if reading == 2 { centre == 2 } else { false }
 }
 
 // Whether a phantom centre limits the first channel of the extension: under reading 2, for a front of three only.
 pub fn phantom_of(reading: u32, config: McConfig) -> bool
-    ensures { result ≡ phantomOf reading config }
+    ensures { result ≡ phantom_of reading config }
 {
     if !config.phantom_centre {
         return false;

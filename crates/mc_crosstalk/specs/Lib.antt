@@ -1,5 +1,3 @@
 pub mod Crosstalk
 pub mod Predictors
 pub mod CrosstalkRecords
-pub mod CrosstalkLaws
-pub mod PredictorsLaws

@@ -1,6 +1,6 @@
 -- The standard's tables of predictors and of the channels that they belong to, by crosstalk code (ISO/IEC 13818-3, 2.5.2.15 and 2.5.3.2.1.3).
 use Rattle.std.specs.Prelude.{List, [], ◌∷◌, ℕ, get_or}
-use Rattle.mc_config.specs.Config.{byPair}
+use Rattle.mc_config.specs.Config.{by_pair}
 
 unfoldable pub npred3 : List ℕ
 npred3 = 6 ∷ 4 ∷ 4 ∷ 4 ∷ 2 ∷ 2 ∷ 2 ∷ 0 ∷ 2 ∷ 2 ∷ 2 ∷ 0 ∷ 0 ∷ 0 ∷ 0 ∷ []
@@ -12,8 +12,8 @@ unfoldable pub npred1 : List ℕ
 npred1 = 2 ∷ 0 ∷ []
 
 -- the number of predictors; none past the table
-unfoldable pub npredTable : ℕ → ℕ → ℕ
-npredTable pair mode = get_or (byPair npred3 npred2 npred1 npred2 npred1 [] pair) mode 0
+unfoldable pub npred_table : ℕ → ℕ → ℕ
+npred_table pair mode = get_or (by_pair npred3 npred2 npred1 npred2 npred1 [] pair) mode 0
 
 unfoldable pub predictable3 : List (List ℕ)
 predictable3 =
@@ -40,9 +40,9 @@ predictable2 = (0 ∷ 1 ∷ []) ∷ (0 ∷ []) ∷ (1 ∷ []) ∷ [] ∷ [] ∷ 
 unfoldable pub predictable1 : List (List ℕ)
 predictable1 = (0 ∷ []) ∷ [] ∷ []
 
-abbrev pub predictableRows : ℕ → List (List ℕ)
-predictableRows pair = byPair predictable3 predictable2 predictable1 predictable2 predictable1 [] pair
+abbrev pub predictable_rows : ℕ → List (List ℕ)
+predictable_rows pair = by_pair predictable3 predictable2 predictable1 predictable2 predictable1 [] pair
 
 -- the channels with predictors; none past the table
-unfoldable pub predictableTable : ℕ → ℕ → List ℕ
-predictableTable pair mode = get_or (predictableRows pair) mode []
+unfoldable pub predictable_table : ℕ → ℕ → List ℕ
+predictable_table pair mode = get_or (predictable_rows pair) mode []

@@ -2,7 +2,7 @@
 ghost use Rattle.std.specs.Prelude.{◌≡◌, cond, [], ltb, length, get_or};
 ghost use Rattle.mc_crosstalk.specs.Crosstalk.{T};
 ghost use Rattle.mc_config.specs.Records.{padded};
-ghost use Rattle.mc_crosstalk.specs.CrosstalkRecords.{sourcesRecord};
+ghost use Rattle.mc_crosstalk.specs.CrosstalkRecords.{sources_record};
 
 use mc_config::McConfig;
 
@@ -49,7 +49,7 @@ pub struct Sources {
 }
 
 pub fn dyn_cross_sources(pair: u32, mode: u8) -> Sources
-    ensures { result ≡ sourcesRecord pair mode }
+    ensures { result ≡ sources_record pair mode }
 {
     let code = mode as usize;
     match pair {

@@ -1,7 +1,7 @@
 // The frame call on a state by value: what is lent is tested, then the head is read, then the payload, and only then is anything written.
 ghost use Rattle.std.specs.Prelude.{◌≡◌};
-ghost use Rattle.mc_base.specs.Base.{baseFrom};
-ghost use Rattle.mc_state.specs.Answer.{lent_of, buffersFrom, after_of};
+ghost use Rattle.mc_base.specs.Base.{base_from};
+ghost use Rattle.mc_state.specs.Answer.{lent_of, buffers_from, after_of};
 ghost use Rattle.mc_state.specs.Frame.{frame_of};
 
 use mc_body::unpacked_frame;
@@ -33,7 +33,7 @@ pub fn frame<'h, 'p, 'a, 'b, 'n, 'r, 'w, 'o, 'l>(
     output: &'o mut [f64],
     lfe: &'l mut [f64],
 ) -> Framed
-    ensures { after_of result (buffersFrom raw.new work.new output.new lfe.new) ≡ frame_of (lent_of head.now head_bits payload.now payload_bits reading desk rate base_channels (baseFrom raw_left.now raw_right.now scaled_left.now scaled_right.now) base_nb_steps.now lfe_allocation nb_steps.now) (buffersFrom raw.old work.old output.old lfe.old) state }
+    ensures { after_of result (buffers_from raw.new work.new output.new lfe.new) ≡ frame_of (lent_of head.now head_bits payload.now payload_bits reading desk rate base_channels (base_from raw_left.now raw_right.now scaled_left.now scaled_right.now) base_nb_steps.now lfe_allocation nb_steps.now) (buffers_from raw.old work.old output.old lfe.old) state }
 {
     if !lent_fits(
         head,

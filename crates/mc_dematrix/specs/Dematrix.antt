@@ -3,7 +3,7 @@ use Rattle.std.specs.Prelude.{cond, List, [], ◌∷◌, ℕ, suc, eqb, Float, g
 use Rattle.std.specs.Float.{nan, binary64}
 use Rattle.std.specs.Float.Ieee.{of_bits, neg}
 use Rattle.floats.specs.Binary64.{◌⊕◌, ◌⊖◌, ◌⊗◌, zero64}
-use Rattle.mc_config.specs.Config.{byPair}
+use Rattle.mc_config.specs.Config.{by_pair}
 
 abbrev pub root2 : Float
 root2 = of_bits binary64 0x3FF6A09E667F3BCD
@@ -14,15 +14,15 @@ half = of_bits binary64 0x3FE0000000000000
 abbrev pub one : Float
 one = of_bits binary64 0x3FF0000000000000
 
-abbrev pub oneAndHalf : Float
-oneAndHalf = of_bits binary64 0x3FF8000000000000
+abbrev pub one_and_half : Float
+one_and_half = of_bits binary64 0x3FF8000000000000
 
 abbrev pub two : Float
 two = of_bits binary64 0x4000000000000000
 
 -- the factor that undoes the encoder's attenuation
 unfoldable pub denorm : ℕ → Float
-denorm procedure = cond (eqb procedure 1) (oneAndHalf ⊕ half ⊗ root2) (one ⊕ root2)
+denorm procedure = cond (eqb procedure 1) (one_and_half ⊕ half ⊗ root2) (one ⊕ root2)
 
 -- the inverse weights of centre and surround, then that factor
 abbrev pub front : ℕ → Float → Float
@@ -35,12 +35,12 @@ abbrev pub surround : ℕ → Float → Float
 surround procedure x = x ⊗ cond (eqb procedure 1) two root2 ⊗ denorm procedure
 
 -- the row of a tc_allocation, counted from i on; the last row stands for every other
-abbrev pub rowFrom : ℕ → List (List Float) → List Float → ℕ → List Float
-rowFrom i [] last tc = last
-rowFrom i (row ∷ rows) last tc = cond (eqb tc i) row (rowFrom (suc i) rows last tc)
+abbrev pub row_from : ℕ → List (List Float) → List Float → ℕ → List Float
+row_from i [] last tc = last
+row_from i (row ∷ rows) last tc = cond (eqb tc i) row (row_from (suc i) rows last tc)
 
 abbrev pub row_of : List (List Float) → List Float → ℕ → List Float
-row_of rows last tc = rowFrom 0 rows last tc
+row_of rows last tc = row_from 0 rows last tc
 
 -- ---- the weighted signals, in the order of the layout: left, right, centre, then surround, as far as the configuration has them
 
@@ -129,7 +129,7 @@ at xs i = get_or xs i nan
 
 unfoldable pub unweighted : ℕ → ℕ → List Float → List Float
 unweighted pair p xs =
-    byPair (front p (at xs 0) ∷ front p (at xs 1) ∷ centred p (at xs 2) ∷ surround p (at xs 3) ∷ surround p (at xs 4) ∷ [])
+    by_pair (front p (at xs 0) ∷ front p (at xs 1) ∷ centred p (at xs 2) ∷ surround p (at xs 3) ∷ surround p (at xs 4) ∷ [])
     (front p (at xs 0) ∷ front p (at xs 1) ∷ centred p (at xs 2) ∷ surround p (at xs 3) ∷ zero64 ∷ [])
     (front p (at xs 0) ∷ front p (at xs 1) ∷ centred p (at xs 2) ∷ zero64 ∷ zero64 ∷ [])
     (front p (at xs 0) ∷ front p (at xs 1) ∷ surround p (at xs 2) ∷ surround p (at xs 3) ∷ zero64 ∷ [])
@@ -140,7 +140,7 @@ unweighted pair p xs =
 -- the weighted signals of a configuration; with no main channel the base channels themselves, never weighted
 unfoldable pub weighted : ℕ → ℕ → ℕ → Float → Float → Float → Float → Float → List Float
 weighted pair p tc lo ro t2 t3 t4 =
-    byPair (cond (eqb p 2) (phased32 tc lo ro t2 t3 t4) (weighted32 tc lo ro t2 t3 t4))
+    by_pair (cond (eqb p 2) (phased32 tc lo ro t2 t3 t4) (weighted32 tc lo ro t2 t3 t4))
     (cond (eqb p 2) (phased31 tc lo ro t2 t3) (weighted31 tc lo ro t2 t3))
     (weighted1 tc lo ro t2)
     (weighted22 tc lo ro t2 t3)
@@ -151,7 +151,7 @@ weighted pair p tc lo ro t2 t3 t4 =
 -- procedure 3 passes the signals through
 unfoldable pub passed : ℕ → Float → Float → Float → Float → Float → List Float
 passed pair lo ro t2 t3 t4 =
-    byPair (lo ∷ ro ∷ t2 ∷ t3 ∷ t4 ∷ [])
+    by_pair (lo ∷ ro ∷ t2 ∷ t3 ∷ t4 ∷ [])
     (lo ∷ ro ∷ t2 ∷ t3 ∷ zero64 ∷ [])
     (lo ∷ ro ∷ t2 ∷ zero64 ∷ zero64 ∷ [])
     (lo ∷ ro ∷ t2 ∷ t3 ∷ zero64 ∷ [])

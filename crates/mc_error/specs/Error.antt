@@ -5,14 +5,14 @@ use Rattle.mc_error.specs.declared.McError.TheVariants.{UnexpectedEnd, Forbidden
 
 -- 1 short, 2 forbidden crosstalk, 3 Layer III commentary, 4 reserved scalefactor, 5 layout changed, 6 wrong loan, 7 wild value, 8 wrong allocation, 13 centre code,
 -- 14 desk
-abbrev pub refusalOf : McError → Refusal
-refusalOf UnexpectedEnd = plain 1
-refusalOf (ForbiddenDynCrossMode sbgr mode) = record { number = 2; group = sbgr; code = mode }
-refusalOf MlLayer3Unsupported = plain 3
-refusalOf ReservedScalefactor = plain 4
-refusalOf ConfigChanged = plain 5
-refusalOf InvalidArgument = plain 6
-refusalOf ValueOutOfRange = plain 7
-refusalOf InvalidAllocation = plain 8
-refusalOf UndefinedCentre = plain 13
-refusalOf InvalidDesk = plain 14
+abbrev pub refusal_of : McError → Refusal
+refusal_of UnexpectedEnd = plain 1
+refusal_of (ForbiddenDynCrossMode sbgr mode) = record { number = 2; group = sbgr; code = mode }
+refusal_of MlLayer3Unsupported = plain 3
+refusal_of ReservedScalefactor = plain 4
+refusal_of ConfigChanged = plain 5
+refusal_of InvalidArgument = plain 6
+refusal_of ValueOutOfRange = plain 7
+refusal_of InvalidAllocation = plain 8
+refusal_of UndefinedCentre = plain 13
+refusal_of InvalidDesk = plain 14

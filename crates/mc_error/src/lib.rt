@@ -2,7 +2,7 @@
 #![tactic(auto)]
 
 ghost use Rattle.std.specs.Prelude.{◌≡◌};
-ghost use Rattle.mc_error.specs.Error.{refusalOf};
+ghost use Rattle.mc_error.specs.Error.{refusal_of};
 
 #[derive(Clone, Copy)]
 pub enum McError {
@@ -21,7 +21,7 @@ pub enum McError {
 impl McError {
     // Document 01's number.
     pub fn number(self) -> u32
-        ensures { result ≡ (refusalOf self).number }
+        ensures { result ≡ (refusal_of self).number }
     {
         match self {
             McError::UnexpectedEnd => 1,
@@ -39,7 +39,7 @@ impl McError {
 
     // The subband group that refusal 2 names, else 0.
     pub fn group(self) -> usize
-        ensures { result ≡ (refusalOf self).group }
+        ensures { result ≡ (refusal_of self).group }
     {
         match self {
             McError::ForbiddenDynCrossMode { sbgr, mode: _ } => sbgr,
@@ -57,7 +57,7 @@ impl McError {
 
     // The crosstalk code that refusal 2 names, else 0.
     pub fn code(self) -> u8
-        ensures { result ≡ (refusalOf self).code }
+        ensures { result ≡ (refusal_of self).code }
     {
         match self {
             McError::ForbiddenDynCrossMode { sbgr: _, mode } => mode,

@@ -4,16 +4,16 @@ use mathlib.Core.List.{List}
 use Prim.Native.Nat.{ℕ}
 use lib.Dec.{eqb}
 use Rattle.cursor.specs.Cursor.{step}
-use Rattle.cursor.specs.CursorLaws.{advance}
+use Rattle.cursor.proofs.CursorLaws.{advance}
 use Rattle.cursor.specs.Ran.{Ran}
 use Rattle.cursor.specs.declared.Cursor.{Cursor}
-use Rattle.mc_fields.specs.Head.{bitsIf, mcHeader}
+use Rattle.mc_fields.specs.Head.{bits_if, mc_header}
 
-module _ (b : List ℕ) (l : ℕ) (c ext nAd centre surround lfe mix procedure lingual half layer3 bit start : Cursor) (n : ℕ)
+module _ (b : List ℕ) (l : ℕ) (c ext n_ad centre surround lfe mix procedure lingual half layer3 bit start : Cursor) (n : ℕ)
     (e₁ : ext ≡ step b l c 1)
-    (e₂ : n ≡ bitsIf (eqb ext.value 1) 8)
-    (e₃ : nAd ≡ step b l ext n)
-    (e₄ : centre ≡ step b l nAd 2)
+    (e₂ : n ≡ bits_if (eqb ext.value 1) 8)
+    (e₃ : n_ad ≡ step b l ext n)
+    (e₄ : centre ≡ step b l n_ad 2)
     (e₅ : surround ≡ step b l centre 2)
     (e₆ : lfe ≡ step b l surround 1)
     (e₇ : mix ≡ step b l lfe 1)
@@ -24,10 +24,10 @@ module _ (b : List ℕ) (l : ℕ) (c ext nAd centre surround lfe mix procedure l
     (e₁₂ : bit ≡ step b l layer3 1)
     (e₁₃ : start ≡ step b l bit 1)
   where
-    pub header-ran : Ran b l c mcHeader start
+    pub header-ran : Ran b l c mc_header start
         (record {
           ext_bit_stream_present = eqb ext.value 1;
-          n_ad_bytes = nAd.value;
+          n_ad_bytes = n_ad.value;
           centre = centre.value;
           surround = surround.value;
           lfe = eqb lfe.value 1;
@@ -39,7 +39,7 @@ module _ (b : List ℕ) (l : ℕ) (c ext nAd centre surround lfe mix procedure l
           copyright_identification_bit = eqb bit.value 1;
           copyright_identification_start = eqb start.value 1;
         })
-    unfolding mcHeader
+    unfolding mc_header
     header-ran =
         record {
           same =

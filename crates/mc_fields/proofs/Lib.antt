@@ -1,1 +1,11 @@
 pub mod HeaderWalk
+pub mod BitsIfLaws
+pub mod FieldLaws
+pub mod ForbiddenLaws
+pub mod HeadRecovers
+pub mod HeadWidth
+pub mod HeadYields
+pub mod LentLaws
+pub mod LongestHead
+pub mod ReadingLaws
+pub mod StatusYields

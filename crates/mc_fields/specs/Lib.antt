@@ -1,12 +1,2 @@
 pub mod Head
-pub mod BitsIfLaws
-pub mod FieldLaws
-pub mod ForbiddenLaws
-pub mod StatusYields
-pub mod HeadYields
-pub mod HeadRecovers
-pub mod HeadWidth
-pub mod ReadingLaws
-pub mod LongestHead
 pub mod Lent
-pub mod LentLaws

@@ -1,14 +1,14 @@
 // mc_header() (ISO/IEC 13818-3, 2.5.1.13).
 ghost use Rattle.std.specs.Prelude.{◌≡◌};
 ghost use Rattle.cursor.specs.Ran.{Ran};
-ghost use Rattle.mc_fields.specs.Head.{bitsIf, mcHeader};
+ghost use Rattle.mc_fields.specs.Head.{bits_if, mc_header};
 
 use cursor::{Cursor, read};
 use mc_config::McHeader;
 
 // The bits of a field that is there only where the test holds.
 pub fn bits_if(there: bool, n: usize) -> usize
-    ensures { result ≡ bitsIf there n }
+    ensures { result ≡ bits_if there n }
 {
     if there { n } else { 0 }
 }
@@ -20,7 +20,7 @@ pub struct HeaderRead {
 }
 
 pub fn read_mc_header(bytes: &[u8], limit: usize, c: Cursor) -> HeaderRead
-    ensures { Ran bytes.now limit c mcHeader result.cursor result.header }
+    ensures { Ran bytes.now limit c mc_header result.cursor result.header }
 {
     let ext = read(bytes, limit, c, 1);
     let n_ad = read(bytes, limit, ext, bits_if(ext.value == 1, 8));

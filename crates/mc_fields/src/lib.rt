@@ -2,7 +2,7 @@
 #![tactic(auto)]
 
 ghost use Rattle.std.specs.Prelude.{◌≡◌};
-ghost use Rattle.mc_fields.specs.Lent.{stringFits, baseFits};
+ghost use Rattle.mc_fields.specs.Lent.{string_fits, base_fits};
 
 mod header;
 
@@ -27,14 +27,14 @@ pub const MAX_STRING_BYTES: usize = 8192;
 
 // At most as many bytes, and no more bits than they hold.
 pub fn string_fits(bytes: &[u8], bits: usize) -> bool
-    ensures { result ≡ stringFits bytes.now bits }
+    ensures { result ≡ string_fits bytes.now bits }
 {
     bytes.len() <= MAX_STRING_BYTES && bits <= 8 * bytes.len()
 }
 
 // One or two base channels.
 pub fn base_fits(base_channels: u8) -> bool
-    ensures { result ≡ baseFits base_channels }
+    ensures { result ≡ base_fits base_channels }
 {
     base_channels == 1 || base_channels == 2
 }

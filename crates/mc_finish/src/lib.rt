@@ -2,9 +2,9 @@
 #![tactic(auto)]
 
 ghost use Rattle.std.specs.Prelude.{◌≡◌, length};
-ghost use Rattle.mc_output.specs.Output.{workOf, outputOf};
-ghost use Rattle.mc_base.specs.Base.{baseFrom};
-ghost use Rattle.mc_finish.specs.Finish.{recordFrom, Tables, BaseFits, RecordFits};
+ghost use Rattle.mc_output.specs.Output.{work_of, output_of};
+ghost use Rattle.mc_base.specs.Base.{base_from};
+ghost use Rattle.mc_finish.specs.Finish.{record_from, Tables, BaseFits, RecordFits};
 
 use mc_payload::McSettings;
 
@@ -27,11 +27,11 @@ pub fn finish<'a, 'b>(
     output: &mut [f64],
 )
     requires tables { Tables s steps.now source.now base.now }
-    requires record_fits { RecordFits (recordFrom raw.now scalefactor.now delays coefs) }
-    requires base_fits { BaseFits s (baseFrom raw_left.now raw_right.now scaled_left.now scaled_right.now) }
+    requires record_fits { RecordFits (record_from raw.now scalefactor.now delays coefs) }
+    requires base_fits { BaseFits s (base_from raw_left.now raw_right.now scaled_left.now scaled_right.now) }
     requires lengths { (length work.old ≡ 3456) × (length output.old ≡ 5760) }
-    ensures work { work.new ≡ workOf s (recordFrom raw.now scalefactor.now delays coefs) (baseFrom raw_left.now raw_right.now scaled_left.now scaled_right.now) history.now }
-    ensures output { output.new ≡ outputOf s (baseFrom raw_left.now raw_right.now scaled_left.now scaled_right.now) work.new }
+    ensures work { work.new ≡ work_of s (record_from raw.now scalefactor.now delays coefs) (base_from raw_left.now raw_right.now scaled_left.now scaled_right.now) history.now }
+    ensures output { output.new ≡ output_of s (base_from raw_left.now raw_right.now scaled_left.now scaled_right.now) work.new }
 {
     mc_scale::scale(
         steps,

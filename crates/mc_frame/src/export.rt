@@ -1,8 +1,8 @@
 // The functions for C; include/koftabasin.h declares them.
 ghost use Rattle.std.specs.Prelude.{◌≡◌};
-ghost use Rattle.mc_base.specs.Base.{baseFrom};
-ghost use Rattle.mc_state.specs.Answer.{lent_of, buffersFrom, packedBy, packedOf, carryingBy};
-ghost use Rattle.mc_state.specs.Carry.{carriedOver, convertedOver};
+ghost use Rattle.mc_base.specs.Base.{base_from};
+ghost use Rattle.mc_state.specs.Answer.{lent_of, buffers_from, packed_by, packed_of, carrying_by};
+ghost use Rattle.mc_state.specs.Carry.{carried_over, converted_over};
 ghost use Rattle.mc_state.specs.Frame.{fresh, frame_of};
 
 use mc_pack::{carried, converted, packed_frame, renewed};
@@ -31,7 +31,7 @@ pub extern "C" fn mc_decode_frame_desks<'s, 'h, 'p, 'a, 'b, 'n, 'r, 'w, 'o, 'l>(
     output: &'o mut [f64],
     lfe: &'l mut [f64],
 ) -> u64
-    ensures { packedBy result state.new (buffersFrom raw.new work.new output.new lfe.new) ≡ packedOf (frame_of (lent_of head.now head_bits payload.now payload_bits reading desk rate base_channels (baseFrom raw_left.now raw_right.now scaled_left.now scaled_right.now) base_nb_steps.now lfe_allocation nb_steps.now) (buffersFrom raw.old work.old output.old lfe.old) state.old) }
+    ensures { packed_by result state.new (buffers_from raw.new work.new output.new lfe.new) ≡ packed_of (frame_of (lent_of head.now head_bits payload.now payload_bits reading desk rate base_channels (base_from raw_left.now raw_right.now scaled_left.now scaled_right.now) base_nb_steps.now lfe_allocation nb_steps.now) (buffers_from raw.old work.old output.old lfe.old) state.old) }
 {
     let t = packed_frame(
         *state,
@@ -72,7 +72,7 @@ pub extern "C" fn mc_fresh_state_desks<'s>(state: &'s mut McDecodeState) -> u32
 // Carries the state over to another reading; the answer is 0, or 6 and the state as it was.
 #[unsafe(no_mangle)]
 pub extern "C" fn mc_carry_state_desks<'s>(state: &'s mut McDecodeState) -> u32
-    ensures { carryingBy result state.new ≡ carriedOver state.old }
+    ensures { carrying_by result state.new ≡ carried_over state.old }
 {
     let t = carried(*state);
     *state = t.state;
@@ -88,7 +88,7 @@ pub extern "C" fn mc_convert_state<'s, 'h>(
     layout: u8,
     accepted: u32,
 ) -> u32
-    ensures { carryingBy result state.new ≡ convertedOver pred_hist.now layout_len layout accepted state.old }
+    ensures { carrying_by result state.new ≡ converted_over pred_hist.now layout_len layout accepted state.old }
 {
     let t = converted(*state, pred_hist, layout_len, layout, accepted);
     *state = t.state;

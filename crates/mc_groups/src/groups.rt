@@ -1,10 +1,10 @@
 // Subband groups (ISO/IEC 13818-3, 2.5.2.15).
 ghost use Rattle.std.specs.Prelude.{◌≡◌};
-ghost use Rattle.mc_config.specs.Groups.{sbgrOf};
+ghost use Rattle.mc_config.specs.Groups.{sbgr_of};
 
 // The group of a subband.
 pub fn sbgr_of_subband(sb: usize) -> usize
-    ensures { result ≡ sbgrOf sb }
+    ensures { result ≡ sbgr_of sb }
 {
     match sb {
         0..=7 => sb,

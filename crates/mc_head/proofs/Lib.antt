@@ -1,1 +1,2 @@
 pub mod HeadWalk
+pub mod AnswerLaws

@@ -2,7 +2,7 @@
 use Rattle.std.specs.Prelude.{false, ℕ, replicate}
 use Rattle.bits.specs.Syntax.{Outcome, accepted, refused}
 use Rattle.mc_config.specs.declared.McHeader.{McHeader}
-use Rattle.mc_error.specs.Error.{refusalOf}
+use Rattle.mc_error.specs.Error.{refusal_of}
 use Rattle.mc_head.specs.declared.HeadAnswer.{HeadAnswer}
 use Rattle.mc_head.specs.declared.HeadAnswer.TheVariants.{Accepted, Refused}
 use Rattle.mc_head.specs.declared.McHead.{McHead}
@@ -12,16 +12,16 @@ abbrev pub values_of : McHead → McHeader × (ℕ × McStatus)
 values_of r = (r.header, (r.check_word, r.status))
 
 -- accepted, with the values and the used bits; or refused, with document 01's number, group and code
-abbrev pub outcomeBy : HeadAnswer → McHeader × (ℕ × McStatus) → Outcome (McHeader × (ℕ × McStatus))
-outcomeBy (Accepted used) values = accepted values used
-outcomeBy (Refused e) values = refused (refusalOf e)
+abbrev pub outcome_by : HeadAnswer → McHeader × (ℕ × McStatus) → Outcome (McHeader × (ℕ × McStatus))
+outcome_by (Accepted used) values = accepted values used
+outcome_by (Refused e) values = refused (refusal_of e)
 
-abbrev pub outcomeOf : McHead → Outcome (McHeader × (ℕ × McStatus))
-outcomeOf r = outcomeBy r.answer (values_of r)
+abbrev pub outcome_of : McHead → Outcome (McHeader × (ℕ × McStatus))
+outcome_of r = outcome_by r.answer (values_of r)
 
 -- a head of zeros
-abbrev pub noHead : McHeader × (ℕ × McStatus)
-noHead = (
+abbrev pub no_head : McHeader × (ℕ × McStatus)
+no_head = (
   record {
     ext_bit_stream_present = false;
     n_ad_bytes = 0;
@@ -51,6 +51,6 @@ noHead = (
 )
 
 -- the values that stand beside an answer: all zero after a refusal
-abbrev pub valuesAfter : Outcome (McHeader × (ℕ × McStatus)) → McHeader × (ℕ × McStatus)
-valuesAfter (accepted values used) = values
-valuesAfter (refused x) = noHead
+abbrev pub values_after : Outcome (McHeader × (ℕ × McStatus)) → McHeader × (ℕ × McStatus)
+values_after (accepted values used) = values
+values_after (refused x) = no_head

@@ -4,10 +4,10 @@
 ghost use Rattle.std.specs.Prelude.{◌≡◌, ◌⊎◌};
 ghost use Rattle.cursor.specs.Cursor.{run_from};
 ghost use Rattle.bits.specs.Syntax.{plain, run};
-ghost use Rattle.mc_error.specs.Error.{refusalOf};
-ghost use Rattle.mc_head.specs.Answer.{outcomeOf, values_of, noHead, valuesAfter};
-ghost use Rattle.mc_fields.specs.Head.{checkModes, head};
-ghost use Rattle.mc_fields.specs.Lent.{headFits, head_of};
+ghost use Rattle.mc_error.specs.Error.{refusal_of};
+ghost use Rattle.mc_head.specs.Answer.{outcome_of, values_of, no_head, values_after};
+ghost use Rattle.mc_fields.specs.Head.{check_modes, head};
+ghost use Rattle.mc_fields.specs.Lent.{head_fits, head_of};
 
 use cursor::{Cursor, read, refuse_if};
 use mc_config::{McConfig, McHeader, centre_stops, reading_fits};
@@ -33,7 +33,7 @@ pub struct McHead {
 
 impl McHead {
     fn refused(e: McError) -> McHead
-        ensures { (result.answer ≡ HeadAnswer.Refused e) × (values_of result ≡ noHead) }
+        ensures { (result.answer ≡ HeadAnswer.Refused e) × (values_of result ≡ no_head) }
     {
         McHead {
             answer: HeadAnswer::Refused(e),
@@ -78,7 +78,7 @@ struct FieldsRead {
 // Reads all of a head; what is left is the test of its crosstalk codes.
 fn read_fields(bytes: &[u8], limit: usize, reading: u32, base_channels: u8) -> FieldsRead
     ensures { run (head reading base_channels) bytes.now limit 0
-        ≡ run_from bytes.now limit result.cursor (checkModes result.pair result.status.dyn_cross (result.header, (result.check_word, result.status))) }
+        ≡ run_from bytes.now limit result.cursor (check_modes result.pair result.status.dyn_cross (result.header, (result.check_word, result.status))) }
 {
     let start = Cursor {
         err: 0,
@@ -106,7 +106,7 @@ fn read_fields(bytes: &[u8], limit: usize, reading: u32, base_channels: u8) -> F
 // The refusal of a number.
 fn error_of(number: u32) -> McError
     requires { (number ≡ 1) ⊎ (number ≡ 13) }
-    ensures { refusalOf result ≡ plain number }
+    ensures { refusal_of result ≡ plain number }
 {
     match number {
         13 => McError::UndefinedCentre,
@@ -116,7 +116,7 @@ fn error_of(number: u32) -> McError
 
 // A reading that there is, a string that fits, and one or two base channels.
 fn head_fits(bytes: &[u8], bits: usize, reading: u32, base_channels: u8) -> bool
-    ensures { result ≡ headFits reading bytes.now bits base_channels }
+    ensures { result ≡ head_fits reading bytes.now bits base_channels }
 {
     reading_fits(reading) & (string_fits(bytes, bits) & base_fits(base_channels))
 }
@@ -124,8 +124,8 @@ fn head_fits(bytes: &[u8], bits: usize, reading: u32, base_channels: u8) -> bool
 // Reads the head in the first `bits` bits. A wrong loan is refused before any bit is read, a centre code after the header, and a forbidden
 // crosstalk code after the last bit.
 pub fn read_head(bytes: &[u8], bits: usize, reading: u32, base_channels: u8) -> McHead
-    ensures answer { outcomeOf result ≡ head_of reading bytes.now bits base_channels }
-    ensures values { values_of result ≡ valuesAfter (head_of reading bytes.now bits base_channels) }
+    ensures answer { outcome_of result ≡ head_of reading bytes.now bits base_channels }
+    ensures values { values_of result ≡ values_after (head_of reading bytes.now bits base_channels) }
 {
     if !head_fits(bytes, bits, reading, base_channels) {
         return McHead::refused(McError::InvalidArgument);

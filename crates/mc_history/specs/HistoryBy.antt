@@ -4,8 +4,8 @@ use Rattle.std.specs.Float.{nan}
 use Rattle.mc_base.specs.Base.{chosen}
 
 -- slot 27 + k of a subband
-abbrev pub lineBy : List Float → ℕ → ℕ → Float
-lineBy base sb k = get_or base (32 * (27 + k) + sb) nan
+abbrev pub line_by : List Float → ℕ → ℕ → Float
+line_by base sb k = get_or base (32 * (27 + k) + sb) nan
 
-abbrev pub historyBy : List Float → List Float → ℕ → Float
-historyBy left right i = get_or (chosen (i / 288) left right) (32 * (27 + i % 9) + i % 288 / 9) nan
+abbrev pub history_by : List Float → List Float → ℕ → Float
+history_by left right i = get_or (chosen (i / 288) left right) (32 * (27 + i % 9) + i % 288 / 9) nan

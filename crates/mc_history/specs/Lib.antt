@@ -1,4 +1,3 @@
 -- The history, and that the code keeps it.
 pub mod History
 pub mod HistoryBy
-pub mod HistoryLaws

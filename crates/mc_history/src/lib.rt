@@ -3,9 +3,9 @@
 
 ghost use Rattle.std.specs.Prelude.{◌≡◌, cond, ◌+◌, ◌<◌, ◌≤◌, eqb, length};
 ghost use Rattle.mc_scale.specs.Code.Strided.{strided};
-ghost use Rattle.mc_base.specs.Base.{scaledBase};
-ghost use Rattle.mc_history.specs.History.{historyOf};
-ghost use Rattle.mc_history.specs.HistoryBy.{lineBy};
+ghost use Rattle.mc_base.specs.Base.{scaled_base};
+ghost use Rattle.mc_history.specs.History.{history_of};
+ghost use Rattle.mc_history.specs.HistoryBy.{line_by};
 
 use mc_base::{chosen, second_base};
 use mc_payload::McSettings;
@@ -13,7 +13,7 @@ use mc_payload::McSettings;
 // The last nine slots of one subband of a base channel, oldest first.
 fn store_line(base: &[f64], sb: usize, values: &mut [f64], at: usize)
     requires { (length base.now ≡ 1152) × (sb < 32) × (at + 9 ≤ length values.old) }
-    ensures { values.new ≡ strided 1 (lineBy base.now sb) at 9 values.old }
+    ensures { values.new ≡ strided 1 (line_by base.now sb) at 9 values.old }
 {
     for k in 0usize..9 {
         values[at + k] = base[32 * (27 + k) + sb];
@@ -23,7 +23,7 @@ fn store_line(base: &[f64], sb: usize, values: &mut [f64], at: usize)
 // The last nine slots of both base channels for the next frame's prediction; one base channel in both places.
 pub fn history<'a>(s: McSettings, left: &'a [f64], right: &'a [f64]) -> [f64; 576]
     requires { (length left.now ≡ 1152) × (length right.now ≡ cond (eqb s.base_channels 1) 0 1152) }
-    ensures { result ≡ historyOf s (scaledBase left.now right.now) }
+    ensures { result ≡ history_of s (scaled_base left.now right.now) }
 {
     let second = second_base(s.base_channels, left, right);
     let mut values = [0.0f64; 576];

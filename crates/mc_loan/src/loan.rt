@@ -2,14 +2,14 @@
 ghost use Rattle.std.specs.Prelude.{◌≡◌, ℕ, ◌≤◌, length, get_or};
 ghost use Rattle.fill.specs.Tab.{tab};
 ghost use Rattle.fill.specs.Each.{each};
-ghost use Rattle.mc_payload.specs.Unpack.{rateFits, stepsFit, loanFits, settingsOf, loanBy};
+ghost use Rattle.mc_payload.specs.Unpack.{rate_fits, steps_fit, loan_fits, settings_of, loan_by};
 
 use mc_config::McHeader;
 use mc_fields::McStatus;
 use mc_payload::McSettings;
 
 fn rate_fits(rate: u32) -> bool
-    ensures { result ≡ rateFits rate }
+    ensures { result ≡ rate_fits rate }
 {
     if rate == 48000 {
         return true;
@@ -22,7 +22,7 @@ fn rate_fits(rate: u32) -> bool
 
 // 0 or the step count of a class.
 fn steps_fit(n: u32) -> bool
-    ensures { result ≡ stepsFit n }
+    ensures { result ≡ steps_fit n }
 {
     if n == 0 {
         return true;
@@ -33,7 +33,7 @@ fn steps_fit(n: u32) -> bool
 // The first n step counts.
 fn all_fit(steps: &[u32], n: usize) -> bool
     requires { n ≤ length steps.now }
-    ensures { result ≡ each (λ k. stepsFit (get_or steps.now k 0)) n }
+    ensures { result ≡ each (λ k. steps_fit (get_or steps.now k 0)) n }
 {
     for k in 0usize..n {
         if !steps_fit(steps[k]) {
@@ -52,7 +52,7 @@ pub fn loan_fits(
     nb_steps: &[u32],
     base_nb_steps: &[u32],
 ) -> bool
-    ensures { result ≡ loanFits reading rate base_channels lfe_allocation nb_steps.now base_nb_steps.now }
+    ensures { result ≡ loan_fits reading rate base_channels lfe_allocation nb_steps.now base_nb_steps.now }
 {
     if !mc_config::reading_fits(reading) {
         return false;
@@ -114,7 +114,7 @@ pub fn settings(
     nb_steps: &[u32],
     base_nb_steps: &[u32],
 ) -> McSettings
-    ensures { result ≡ settingsOf (loanBy reading rate base_channels header status lfe_allocation nb_steps.now base_nb_steps.now) }
+    ensures { result ≡ settings_of (loan_by reading rate base_channels header status lfe_allocation nb_steps.now base_nb_steps.now) }
 {
     let steps = table_96(nb_steps);
     let base_steps = table_64(base_nb_steps);

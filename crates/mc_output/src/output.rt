@@ -2,9 +2,9 @@
 ghost use Rattle.std.specs.Prelude.{◌≡◌, cond, ℕ, ◌<◌, ◌≤◌, eqb, length, get_or};
 ghost use Rattle.std.specs.Float.{nan};
 ghost use Rattle.mc_scale.specs.Code.Strided.{across};
-ghost use Rattle.mc_base.specs.Base.{scaledBase};
-ghost use Rattle.mc_output.specs.Output.{outputOf};
-ghost use Rattle.mc_output.specs.Code.OutputByMix.{mixOf, tcsOf, mainBy, mixedBy, SecondFits, channelBy, mixedOf, withSecond, beyond, baseAlone};
+ghost use Rattle.mc_base.specs.Base.{scaled_base};
+ghost use Rattle.mc_output.specs.Output.{output_of};
+ghost use Rattle.mc_output.specs.Code.OutputByMix.{mix_of, tcs_of, main_by, mixed_by, SecondFits, channel_by, mixed_of, with_second, beyond, base_alone};
 
 use mc_base::second_base;
 use mc_config::McConfig;
@@ -26,7 +26,7 @@ struct Mix {
 }
 
 fn mix_of(s: McSettings) -> Mix
-    ensures { result ≡ mixOf s }
+    ensures { result ≡ mix_of s }
 {
     let config = McConfig::from_header(s.header, s.base_channels);
     Mix {
@@ -41,7 +41,7 @@ fn mix_of(s: McSettings) -> Mix
 
 // tc_allocation by subband.
 fn tcs_of(tc: &[u8; 12]) -> [u8; 32]
-    ensures { result ≡ tcsOf tc.now }
+    ensures { result ≡ tcs_of tc.now }
 {
     let mut tcs = [0u8; 32];
     for sb in 0usize..32 {
@@ -53,7 +53,7 @@ fn tcs_of(tc: &[u8; 12]) -> [u8; 32]
 // Main channel m at place j of its 1152, as dematrixing takes it.
 fn main_at(x: Mix, work: &[f64], m: usize, j: usize) -> f64
     requires { (length work.now ≡ 3456) × (m < 3) × (j < 1152) }
-    ensures { result ≡ mainBy x work.now m j }
+    ensures { result ≡ main_by x work.now m j }
 {
     if m < x.main {
         if j % 32 < x.limit {
@@ -66,7 +66,7 @@ fn main_at(x: Mix, work: &[f64], m: usize, j: usize) -> f64
 // The five dematrixed values at place j.
 fn mixed_at(x: Mix, tc: u8, left: &[f64], right: &[f64], work: &[f64], j: usize) -> [f64; 5]
     requires { (length left.now ≡ 1152) × (length right.now ≡ 1152) × (length work.now ≡ 3456) × (j < 1152) }
-    ensures { result ≡ mixedBy x tc left.now right.now work.now j }
+    ensures { result ≡ mixed_by x tc left.now right.now work.now j }
 {
     let t2 = main_at(x, work, 0, j);
     let t3 = main_at(x, work, 1, j);
@@ -77,7 +77,7 @@ fn mixed_at(x: Mix, tc: u8, left: &[f64], right: &[f64], work: &[f64], j: usize)
 // Stores the values at place j of the five channels; +0 beyond the layout.
 fn store(x: Mix, values: [f64; 5], j: usize, output: &mut [f64])
     requires { (j < 1152) × (length output.old ≡ 5760) }
-    ensures { output.new ≡ across (channelBy x values) j output.old }
+    ensures { output.new ≡ across (channel_by x values) j output.old }
 {
     for ch in 0usize..5 {
         let mut value = 0.0;
@@ -108,7 +108,7 @@ fn write_mixed(
     output: &mut [f64],
 )
     requires { (length left.now ≡ 1152) × (length right.now ≡ 1152) × (length work.now ≡ 3456) × (length output.old ≡ 5760) }
-    ensures { output.new ≡ mixedOf x tcs.now left.now right.now work.now }
+    ensures { output.new ≡ mixed_of x tcs.now left.now right.now work.now }
 {
     for j in 0usize..1152 {
         let mixed = mixed_at(x, tcs[j % 32], left, right, work, j);
@@ -119,7 +119,7 @@ fn write_mixed(
 // A second stereo programme, as it was sent, takes the last two channels below the subband limit.
 fn write_second(x: Mix, work: &[f64], output: &mut [f64])
     requires { (length work.now ≡ 3456) × (length output.old ≡ 5760) × (2 ≤ x.channels) × (x.channels ≤ 5) × (x.main ≤ 1) }
-    ensures { output.new ≡ withSecond x work.now output.old }
+    ensures { output.new ≡ with_second x work.now output.old }
 {
     let channels = x.channels;
     let main = x.main;
@@ -147,7 +147,7 @@ fn clear_beyond(channels: usize, output: &mut [f64])
 // The layout, laid over the dematrixed values.
 fn lay_out(x: Mix, work: &[f64], output: &mut [f64])
     requires { (length work.now ≡ 3456) × (length output.old ≡ 5760) × (x.channels ≤ 5) × SecondFits x }
-    ensures { output.new ≡ beyond x.channels (cond x.second_stereo (withSecond x work.now output.old) output.old) }
+    ensures { output.new ≡ beyond x.channels (cond x.second_stereo (with_second x work.now output.old) output.old) }
 {
     if x.second_stereo {
         write_second(x, work, output);
@@ -158,7 +158,7 @@ fn lay_out(x: Mix, work: &[f64], output: &mut [f64])
 // All slots and subbands where nothing but the base is heard: its channels as they are, and +0 beyond them.
 fn write_base(x: Mix, left: &[f64], right: &[f64], output: &mut [f64])
     requires { (length left.now ≡ 1152) × (length right.now ≡ 1152) × (length output.old ≡ 5760) }
-    ensures { output.new ≡ baseAlone x left.now right.now }
+    ensures { output.new ≡ base_alone x left.now right.now }
 {
     for j in 0usize..1152 {
         store(x, [left[j], right[j], 0.0, 0.0, 0.0], j, output);
@@ -174,7 +174,7 @@ pub fn write_output<'a>(
     output: &mut [f64],
 )
     requires { (length left.now ≡ 1152) × (length right.now ≡ cond (eqb s.base_channels 1) 0 1152) × (length work.now ≡ 3456) × (length output.old ≡ 5760) }
-    ensures { output.new ≡ outputOf s (scaledBase left.now right.now) work.now }
+    ensures { output.new ≡ output_of s (scaled_base left.now right.now) work.now }
 {
     let x = mix_of(s);
     let second = second_base(s.base_channels, left, right);

@@ -2,9 +2,9 @@
 #![tactic(auto)]
 
 ghost use Rattle.std.specs.Prelude.{◌≡◌};
-ghost use Rattle.mc_base.specs.Base.{baseFrom};
-ghost use Rattle.mc_state.specs.Answer.{lent_of, buffersFrom, outcomeOf, packed, packedBy, packedOf, carryNumber, carryingBy};
-ghost use Rattle.mc_state.specs.Carry.{carriedOver, convertedOver};
+ghost use Rattle.mc_base.specs.Base.{base_from};
+ghost use Rattle.mc_state.specs.Answer.{lent_of, buffers_from, outcome_of, packed, packed_by, packed_of, carry_number, carrying_by};
+ghost use Rattle.mc_state.specs.Carry.{carried_over, converted_over};
 ghost use Rattle.mc_state.specs.Frame.{fresh, frame_of};
 
 use mc_decode::frame_by_value;
@@ -12,7 +12,7 @@ use mc_state::{CarryAnswer, McAnswer, McDecodeState};
 
 // The answer as one number.
 fn pack(answer: McAnswer) -> u64
-    ensures { result ≡ packed (outcomeOf answer) }
+    ensures { result ≡ packed (outcome_of answer) }
 {
     match answer {
         McAnswer::Accepted {
@@ -56,7 +56,7 @@ pub fn packed_frame<'h, 'p, 'a, 'b, 'n, 'r, 'w, 'o, 'l>(
     output: &'o mut [f64],
     lfe: &'l mut [f64],
 ) -> PackedFrame
-    ensures { packedBy result.answer result.state (buffersFrom raw.new work.new output.new lfe.new) ≡ packedOf (frame_of (lent_of head.now head_bits payload.now payload_bits reading desk rate base_channels (baseFrom raw_left.now raw_right.now scaled_left.now scaled_right.now) base_nb_steps.now lfe_allocation nb_steps.now) (buffersFrom raw.old work.old output.old lfe.old) state) }
+    ensures { packed_by result.answer result.state (buffers_from raw.new work.new output.new lfe.new) ≡ packed_of (frame_of (lent_of head.now head_bits payload.now payload_bits reading desk rate base_channels (base_from raw_left.now raw_right.now scaled_left.now scaled_right.now) base_nb_steps.now lfe_allocation nb_steps.now) (buffers_from raw.old work.old output.old lfe.old) state) }
 {
     let t = frame_by_value(
         state,
@@ -106,7 +106,7 @@ pub fn renewed(_state: McDecodeState) -> Refreshed
 }
 
 fn number_of(answer: CarryAnswer) -> u32
-    ensures { result ≡ carryNumber answer }
+    ensures { result ≡ carry_number answer }
 {
     match answer {
         CarryAnswer::Carried => 0,
@@ -116,7 +116,7 @@ fn number_of(answer: CarryAnswer) -> u32
 
 // A state carried over to another reading.
 pub fn carried(state: McDecodeState) -> Refreshed
-    ensures { carryingBy result.answer result.state ≡ carriedOver state }
+    ensures { carrying_by result.answer result.state ≡ carried_over state }
 {
     let t = state.carry();
     let answer = t.answer;
@@ -135,7 +135,7 @@ pub fn converted<'h>(
     layout: u8,
     accepted: u32,
 ) -> Refreshed
-    ensures { carryingBy result.answer result.state ≡ convertedOver pred_hist.now layout_len layout accepted state }
+    ensures { carrying_by result.answer result.state ≡ converted_over pred_hist.now layout_len layout accepted state }
 {
     let t = state.convert(pred_hist, layout_len, layout, accepted);
     let answer = t.answer;

@@ -4,9 +4,5 @@ pub mod Payload
 pub mod Record
 pub mod Unpack
 -- laws, demand 3 and the longest payload
-pub mod UnpackLaws
-pub mod Alike
-pub mod ReadingLaws
-pub mod PayloadYields
 pub mod Demand3
 pub mod Longest

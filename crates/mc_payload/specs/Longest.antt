@@ -2,31 +2,25 @@
 use Rattle.std.specs.Prelude.{◌≡◌, true, false, cond, List, ℕ, ◌-◌, ◌%◌, ◌≤◌, eqb, ltb, replicate}
 use Rattle.bits.specs.Syntax.{plain, accepted, refused}
 use Rattle.fill.specs.Tab.{tab}
-use Rattle.mc_config.specs.Reading.{readingFits}
+use Rattle.mc_config.specs.Reading.{reading_fits}
 use Rattle.mc_config.specs.declared.McHeader.{McHeader}
 use Rattle.mc_fields.specs.declared.McStatus.{McStatus}
 use Rattle.mc_payload.specs.Payload.{Codes}
-use Rattle.mc_payload.specs.Unpack.{Loan, unpackOf}
+use Rattle.mc_payload.specs.Unpack.{Loan, unpack_of}
 pub mod Bits
-pub mod Most
-pub mod Sums
-pub mod Zeros
-pub mod Bound
-pub mod Example
-pub mod Proof
 
 -- the most bits that a payload uses
 abbrev pub longest : ℕ
 longest = 55134
 
 abbrev pub NoneLonger : Type 0
-NoneLonger = (l : Loan) (b : List ℕ) (n : ℕ) (c : Codes) (u : ℕ) → unpackOf l b n ≡ accepted c u → u ≤ longest
+NoneLonger = (l : Loan) (b : List ℕ) (n : ℕ) (c : Codes) (u : ℕ) → unpack_of l b n ≡ accepted c u → u ≤ longest
 
 -- ---- a loan under which some payload uses them
 
 -- 3/2 without phantom centre, with LFE
-abbrev pub longestHeader : McHeader
-longestHeader =
+abbrev pub longest_header : McHeader
+longest_header =
     record {
       ext_bit_stream_present = false;
       n_ad_bytes = 0;
@@ -43,8 +37,8 @@ longestHeader =
     }
 
 -- no crosstalk; in each group a prediction flag and six predictors with three coefficients
-abbrev pub longestStatus : McStatus
-longestStatus =
+abbrev pub longest_status : McStatus
+longest_status =
     record {
       tc_sbgr_select = true;
       dyn_cross_on = false;
@@ -56,25 +50,25 @@ longestStatus =
     }
 
 -- 44,100 Hz, two base channels, 65,535 steps in 30 subbands of three channels; under any reading
-unfoldable pub longestLoan : ℕ → Loan
-longestLoan reading =
+unfoldable pub longest_loan : ℕ → Loan
+longest_loan reading =
     record {
       reading = reading;
       rate = 44100;
-      baseChannels = 2;
-      header = longestHeader;
-      status = longestStatus;
+      base_channels = 2;
+      header = longest_header;
+      status = longest_status;
       lfe = 15;
       steps = tab (λ (k : ℕ). cond (ltb (k % 32) 30) 65535 0) 96;
-      baseSteps = replicate 64 0;
+      base_steps = replicate 64 0;
     }
 
 -- under either reading some payload uses the most bits, and with one bit fewer it is short
 abbrev pub Reached : Type 0
 Reached =
     (reading : ℕ)
-    → readingFits reading ≡ true
+    → reading_fits reading ≡ true
     → (b : List ℕ)
     × (c : Codes)
-    × (unpackOf (longestLoan reading) b longest ≡ accepted c longest)
-    × (unpackOf (longestLoan reading) b (longest - 1) ≡ refused (plain 1))
+    × (unpack_of (longest_loan reading) b longest ≡ accepted c longest)
+    × (unpack_of (longest_loan reading) b (longest - 1) ≡ refused (plain 1))

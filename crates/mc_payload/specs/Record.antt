@@ -4,49 +4,49 @@ use Rattle.fill.specs.Tab.{tab}
 use Rattle.floats.specs.Binary64.{zero64}
 use Rattle.bitalloc.specs.Classes.{grouped}
 use Rattle.requant.specs.Requant
-use Rattle.requant.specs.Requant.{degrouped, lfeSampleOf, coefficientOf}
-use Rattle.mc_fields.specs.Head.{countAt}
+use Rattle.requant.specs.Requant.{degrouped, lfe_sample_of, coefficient_of}
+use Rattle.mc_fields.specs.Head.{count_at}
 use Rattle.mc_payload.specs.declared.McSettings.{McSettings}
 use Rattle.mc_payload.specs.Places.{own_at}
 use Rattle.mc_payload.specs.Payload.{Codes}
 
 -- scfsi of channel m in subband sb
-abbrev pub scfsiOf : Codes → ℕ → ℕ → ℕ
-scfsiOf c m sb = get_or c.0 (3 * sb + m) 0
+abbrev pub scfsi_of : Codes → ℕ → ℕ → ℕ
+scfsi_of c m sb = get_or c.0 (3 * sb + m) 0
 
 -- the delay of predictor px of group g
-abbrev pub delayOf : Codes → ℕ → ℕ → ℕ
-delayOf c g px = get_or c.1.0 (4 * (6 * g + px)) 0
+abbrev pub delay_of : Codes → ℕ → ℕ → ℕ
+delay_of c g px = get_or c.1.0 (4 * (6 * g + px)) 0
 
 -- its coefficient k; +0 where none was sent
-abbrev pub coefOf : List ℕ → Codes → ℕ → ℕ → ℕ → Float
-coefOf predsi c g px k = cond (ltb k (countAt predsi g px)) (coefficientOf (get_or c.1.0 (4 * (6 * g + px) + 1 + k) 0)) zero64
+abbrev pub coef_of : List ℕ → Codes → ℕ → ℕ → ℕ → Float
+coef_of predsi c g px k = cond (ltb k (count_at predsi g px)) (coefficient_of (get_or c.1.0 (4 * (6 * g + px) + 1 + k) 0)) zero64
 
 -- the LFE channel's scalefactor index
-abbrev pub lfScalefactorOf : Codes → ℕ
-lfScalefactorOf c = c.1.1.0
+abbrev pub lf_scalefactor_of : Codes → ℕ
+lf_scalefactor_of c = c.1.1.0
 
 -- the scalefactor index of channel m in subband sb, in the part 0 to 2 of the frame
-abbrev pub scalefactorAt : Codes → ℕ → ℕ → ℕ → ℕ
-scalefactorAt c m sb part = get_or c.1.1.1.0 (3 * (3 * sb + m) + part) 0
+abbrev pub scalefactor_at : Codes → ℕ → ℕ → ℕ → ℕ
+scalefactor_at c m sb part = get_or c.1.1.1.0 (3 * (3 * sb + m) + part) 0
 
 -- the code k of the three that channel m has in subband sb of granule gr
 abbrev pub code_of : Codes → ℕ → ℕ → ℕ → ℕ → ℕ
 code_of c gr m sb k = get_or c.1.1.1.1 (289 * gr + 1 + 3 * (3 * sb + m) + k) 0
 
 -- a sample's code: a digit of its group code, or its own
-abbrev pub sampleCodeOf : ℕ → Codes → ℕ → ℕ → ℕ → ℕ
-sampleCodeOf n c m slot sb = cond (grouped n) (get_or (degrouped n (code_of c (slot / 3) m sb 0)) (slot % 3) 0) (code_of c (slot / 3) m sb (slot % 3))
+abbrev pub sample_code_of : ℕ → Codes → ℕ → ℕ → ℕ → ℕ
+sample_code_of n c m slot sb = cond (grouped n) (get_or (degrouped n (code_of c (slot / 3) m sb 0)) (slot % 3) 0) (code_of c (slot / 3) m sb (slot % 3))
 
 -- the raw value of channel m in a slot and subband; +0 where the payload has none
-unfoldable pub rawAt : McSettings → Codes → ℕ → ℕ → ℕ → Float
-rawAt s c m slot sb =
+unfoldable pub raw_at : McSettings → Codes → ℕ → ℕ → ℕ → Float
+raw_at s c m slot sb =
     let n = own_at s m sb in
-    cond (eqb n 0) zero64 (Requant.rawOf n (sampleCodeOf n c m slot sb))
+    cond (eqb n 0) zero64 (Requant.raw_of n (sample_code_of n c m slot sb))
 
 -- the LFE sample of a granule; +0 without an LFE allocation
-unfoldable pub lfeAt : ℕ → Codes → ℕ → Float
-lfeAt lfe c gr = cond (eqb lfe 0) zero64 (lfeSampleOf lfe (lfScalefactorOf c) (get_or c.1.1.1.1 (289 * gr) 0))
+unfoldable pub lfe_at : ℕ → Codes → ℕ → Float
+lfe_at lfe c gr = cond (eqb lfe 0) zero64 (lfe_sample_of lfe (lf_scalefactor_of c) (get_or c.1.1.1.1 (289 * gr) 0))
 
 -- ---- the record, as finishing takes it
 
@@ -62,24 +62,24 @@ pub record Record : Type 0 where
   -- by granule
   pub lfe : List Float
 
-unfoldable pub rawOf : McSettings → Codes → List Float
-rawOf s c = tab (λ (k : ℕ). rawAt s c (k / 1152) (k / 32 % 36) (k % 32)) 3456
+unfoldable pub raw_of : McSettings → Codes → List Float
+raw_of s c = tab (λ (k : ℕ). raw_at s c (k / 1152) (k / 32 % 36) (k % 32)) 3456
 
-unfoldable pub delaysOf : Codes → List (List ℕ)
-delaysOf c = tab (λ (g : ℕ). tab (delayOf c g) 6) 8
+unfoldable pub delays_of : Codes → List (List ℕ)
+delays_of c = tab (λ (g : ℕ). tab (delay_of c g) 6) 8
 
-unfoldable pub coefsOf : List ℕ → Codes → List (List (List Float))
-coefsOf predsi c = tab (λ (g : ℕ). tab (λ (px : ℕ). tab (coefOf predsi c g px) 3) 6) 8
+unfoldable pub coefs_of : List ℕ → Codes → List (List (List Float))
+coefs_of predsi c = tab (λ (g : ℕ). tab (λ (px : ℕ). tab (coef_of predsi c g px) 3) 6) 8
 
-unfoldable pub lfeOf : ℕ → Codes → List Float
-lfeOf lfe c = tab (lfeAt lfe c) 12
+unfoldable pub lfe_of : ℕ → Codes → List Float
+lfe_of lfe c = tab (lfe_at lfe c) 12
 
-unfoldable pub recordOf : McSettings → Codes → Record
-recordOf s c =
+unfoldable pub record_of : McSettings → Codes → Record
+record_of s c =
     record {
-      raw = rawOf s c;
+      raw = raw_of s c;
       scalefactor = c.1.1.1.0;
-      delay = delaysOf c;
-      coef = coefsOf s.status.mc_prediction c;
-      lfe = lfeOf s.lfe_allocation c;
+      delay = delays_of c;
+      coef = coefs_of s.status.mc_prediction c;
+      lfe = lfe_of s.lfe_allocation c;
     }

@@ -1,1 +1,2 @@
 pub mod PlacesBuilt
+pub mod PlacesLaws

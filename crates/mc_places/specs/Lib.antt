@@ -1,4 +1,2 @@
 -- the places by the tables that the code holds
 pub mod PlacesBy
--- laws
-pub mod PlacesLaws

@@ -1,7 +1,7 @@
 // Which channels and subbands the extension carries, and their step counts (ISO/IEC 13818-3, 2.5.2.13, 2.5.2.15 and 2.5.2.17).
 ghost use Rattle.std.specs.Prelude.{◌≡◌, ℕ, ◌<◌, get_or};
-ghost use Rattle.mc_config.specs.Config.{mainOf};
-ghost use Rattle.mc_places.specs.PlacesBy.{limitBy, limitsBy, carriedBy, sourceBy, groupSources, groupBases, stepsBy, ownBy, places_by, places_of};
+ghost use Rattle.mc_config.specs.Config.{main_of};
+ghost use Rattle.mc_places.specs.PlacesBy.{limit_by, limits_by, carried_by, source_by, group_sources, group_bases, steps_by, own_by, places_by, places_of};
 
 use mc_config::McConfig;
 use mc_crosstalk::{FROM_BASE, TRANSMITTED};
@@ -20,7 +20,7 @@ pub struct Places {
 
 // The first subband that channel m no longer has, 0 for a channel that is not there; `phantom` is whether a phantom centre limits.
 fn limit_by(nmch: usize, phantom: bool, limit: usize, m: usize) -> usize
-    ensures { result ≡ limitBy nmch phantom limit m }
+    ensures { result ≡ limit_by nmch phantom limit m }
 {
     if nmch <= m {
         return 0;
@@ -33,7 +33,7 @@ fn limit_by(nmch: usize, phantom: bool, limit: usize, m: usize) -> usize
 
 // The same of the three channels.
 fn limits_by(nmch: usize, phantom: bool, limit: usize) -> [usize; 3]
-    ensures { result ≡ limitsBy nmch phantom limit }
+    ensures { result ≡ limits_by nmch phantom limit }
 {
     [
         limit_by(nmch, phantom, limit, 0),
@@ -45,15 +45,15 @@ fn limits_by(nmch: usize, phantom: bool, limit: usize) -> [usize; 3]
 // Whether channel m is there in subband sb.
 fn carried(limits: &[usize; 3], m: usize, sb: usize) -> bool
     requires { m < 3 }
-    ensures { result ≡ carriedBy limits.now m sb }
+    ensures { result ≡ carried_by limits.now m sb }
 {
     sb < limits[m]
 }
 
 // The source of channel m by the crosstalk code and the second stereo bit of a group.
 fn source_by(pair: u32, main: usize, mode: u8, second: u8, m: usize) -> u8
-    requires { (main ≡ mainOf pair) × (m < 3) }
-    ensures { result ≡ sourceBy pair mode second m }
+    requires { (main ≡ main_of pair) × (m < 3) }
+    ensures { result ≡ source_by pair mode second m }
 {
     if m < main {
         let listed = mc_crosstalk::dyn_cross_sources(pair, mode);
@@ -71,8 +71,8 @@ fn source_by(pair: u32, main: usize, mode: u8, second: u8, m: usize) -> u8
 
 // The sources of the three channels in each group.
 fn group_sources(pair: u32, main: usize, cross: &[u8; 24]) -> [u8; 36]
-    requires { main ≡ mainOf pair }
-    ensures { result ≡ groupSources pair cross.now }
+    requires { main ≡ main_of pair }
+    ensures { result ≡ group_sources pair cross.now }
 {
     let mut table = [0u8; 36];
     for k in 0usize..36 {
@@ -84,7 +84,7 @@ fn group_sources(pair: u32, main: usize, cross: &[u8; 24]) -> [u8; 36]
 
 // The base channels that they copy where their source is FROM_BASE.
 fn group_bases(pair: u32, tc: &[u8; 12], lr: bool, base_channels: u8) -> [u8; 36]
-    ensures { result ≡ groupBases pair tc.now lr base_channels }
+    ensures { result ≡ group_bases pair tc.now lr base_channels }
 {
     let mut table = [0u8; 36];
     for k in 0usize..36 {
@@ -104,7 +104,7 @@ fn steps_by(
     sb: usize,
 ) -> u32
     requires { (source < 5) × (base < 2) × (m < 3) × (sb < 32) }
-    ensures { result ≡ stepsBy steps.now base_steps.now there source base m sb }
+    ensures { result ≡ steps_by steps.now base_steps.now there source base m sb }
 {
     if !there {
         return 0;
@@ -121,7 +121,7 @@ fn steps_by(
 // The step count of samples that are in the payload.
 fn own_by(steps: &[u32; 96], there: bool, source: u8, m: usize, sb: usize) -> u32
     requires { (m < 3) × (sb < 32) }
-    ensures { result ≡ ownBy steps.now there source m sb }
+    ensures { result ≡ own_by steps.now there source m sb }
 {
     if !there {
         return 0;

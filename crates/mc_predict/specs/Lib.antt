@@ -1,3 +1,2 @@
 pub mod Predict
 pub mod Code
-pub mod Laws

@@ -4,9 +4,9 @@
 ghost use Rattle.std.specs.Prelude.{◌≡◌, cond, [], ℕ, ◌+◌, ◌*◌, ◌<◌, ◌≤◌, eqb, length, get_or};
 ghost use Rattle.std.specs.Float.{nan};
 ghost use Rattle.floats.specs.Binary64.{◌⊕◌};
-ghost use Rattle.mc_crosstalk.specs.Crosstalk.{predictedOf};
+ghost use Rattle.mc_crosstalk.specs.Crosstalk.{predicted_of};
 ghost use Rattle.mc_scale.specs.Code.Strided.{column};
-ghost use Rattle.mc_predict.specs.Code.PredictByLine.{line_at, line_of, termOf, termsOf, pairSum, subbandOf, groups_of, predictedWork};
+ghost use Rattle.mc_predict.specs.Code.PredictByLine.{line_at, line_of, term_of, terms_of, pair_sum, subband_of, groups_of, predicted_work};
 
 use mc_base::second_base;
 use mc_config::McConfig;
@@ -37,7 +37,7 @@ fn line_of(history: &[f64; 576], base: &[f64], ch: usize, sb: usize) -> [f64; 45
 
 // One more term, where the coefficient is not 0.
 fn with_term(sum: f64, coef: f64, x: f64) -> f64
-    ensures { result ≡ termOf sum coef x }
+    ensures { result ≡ term_of sum coef x }
 {
     if coef != 0.0 {
         return sum + coef * x;
@@ -48,7 +48,7 @@ fn with_term(sum: f64, coef: f64, x: f64) -> f64
 // The three terms of a predictor, from time t back.
 fn with_terms(sum: f64, coef: [f64; 3], line: &[f64; 45], t: usize) -> f64
     requires { (2 ≤ t) × (t < 45) }
-    ensures { result ≡ termsOf sum coef line.now t }
+    ensures { result ≡ terms_of sum coef line.now t }
 {
     let one = with_term(sum, coef[0], line[t]);
     let two = with_term(one, coef[1], line[t - 1]);
@@ -74,7 +74,7 @@ fn predict_column(
     at: usize,
 )
     requires { (delay_left ≤ 7) × (delay_right ≤ 7) × (at + 1120 < length work.old) }
-    ensures { work.new ≡ column (λ (slot : ℕ). get_or work.old (at + 32 * slot) nan ⊕ pairSum delay_left coef_left left.now delay_right coef_right right.now slot) at work.old }
+    ensures { work.new ≡ column (λ (slot : ℕ). get_or work.old (at + 32 * slot) nan ⊕ pair_sum delay_left coef_left left.now delay_right coef_right right.now slot) at work.old }
 {
     let d_left = delay_left as usize;
     let d_right = delay_right as usize;
@@ -100,7 +100,7 @@ fn predict_subband(
 )
     requires place { (sb < 32) × (length work.old ≡ 3456) }
     requires delays_low { (px : ℕ) → px < 6 → get_or delays px 0 ≤ 7 }
-    ensures { work.new ≡ subbandOf sb (predictedOf pair mode) delays coefs left.now right.now work.old }
+    ensures { work.new ≡ subband_of sb (predicted_of pair mode) delays coefs left.now right.now work.old }
 {
     let predicted = predictable_channels(pair, mode);
     let count = predicted.count;
@@ -167,7 +167,7 @@ pub fn predict<'a>(
 )
     requires lengths { (length left.now ≡ 1152) × (length right.now ≡ cond (eqb s.base_channels 1) 0 1152) × (length work.old ≡ 3456) }
     requires delays_low { (g px : ℕ) → g < 8 → px < 6 → get_or (get_or delays g []) px 0 ≤ 7 }
-    ensures { work.new ≡ predictedWork s delays coefs left.now right.now history.now work.old }
+    ensures { work.new ≡ predicted_work s delays coefs left.now right.now history.now work.old }
 {
     let config = McConfig::from_header(s.header, s.base_channels);
     let status = s.status;

@@ -2,9 +2,9 @@
 #![tactic(auto)]
 
 ghost use Rattle.std.specs.Prelude.{◌≡◌, [], get_or};
-ghost use Rattle.mc_crosstalk.specs.Crosstalk.{predictorsOf};
+ghost use Rattle.mc_crosstalk.specs.Crosstalk.{predictors_of};
 ghost use Rattle.mc_config.specs.Records.{padded};
-ghost use Rattle.mc_predictors.specs.Channels.{channelsRecord};
+ghost use Rattle.mc_predictors.specs.Channels.{channels_record};
 
 use mc_config::McConfig;
 
@@ -17,7 +17,7 @@ const NPRED_1: [usize; 2] = [2, 0];
 
 // The number of predictors.
 pub fn npred_for(pair: u32, mode: u8) -> usize
-    ensures { result ≡ predictorsOf pair mode }
+    ensures { result ≡ predictors_of pair mode }
 {
     let code = mode as usize;
     match pair {
@@ -65,7 +65,7 @@ pub struct Channels {
 }
 
 pub fn predictable_channels(pair: u32, mode: u8) -> Channels
-    ensures { result ≡ channelsRecord pair mode }
+    ensures { result ≡ channels_record pair mode }
 {
     let count = npred_for(pair, mode) / 2;
     let code = mode as usize;

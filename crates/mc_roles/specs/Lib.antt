@@ -1,3 +1,2 @@
 pub mod Roles
 pub mod RolesRecord
-pub mod RolesLaws

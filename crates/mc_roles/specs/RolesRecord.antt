@@ -2,8 +2,8 @@
 use Rattle.std.specs.Prelude.{ℕ, length}
 use Rattle.mc_config.specs.Config.{left}
 use Rattle.mc_config.specs.Records.{padded}
-use Rattle.mc_roles.specs.Roles.{tcRolesOf}
+use Rattle.mc_roles.specs.Roles.{tc_roles_of}
 use Rattle.mc_roles.specs.declared.roles.Roles.{Roles}
 
-abbrev pub rolesRecord : ℕ → ℕ → Roles
-rolesRecord pair tc = record { count = length (tcRolesOf pair tc); roles = padded 3 left (tcRolesOf pair tc) }
+abbrev pub roles_record : ℕ → ℕ → Roles
+roles_record pair tc = record { count = length (tc_roles_of pair tc); roles = padded 3 left (tc_roles_of pair tc) }

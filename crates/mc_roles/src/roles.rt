@@ -1,8 +1,8 @@
 // Which audio channel a main channel carries, by tc_allocation, and the base channel that a crossed one copies (ISO/IEC 13818-3, 2.5.2.15 and 2.5.3.2.1.2).
 ghost use Rattle.std.specs.Prelude.{◌≡◌, ◌<◌, length, get_or};
 ghost use Rattle.mc_config.specs.Config.{left};
-ghost use Rattle.mc_roles.specs.Roles.{row_at, fallbackOf, base_of};
-ghost use Rattle.mc_roles.specs.RolesRecord.{rolesRecord};
+ghost use Rattle.mc_roles.specs.Roles.{row_at, fallback_of, base_of};
+ghost use Rattle.mc_roles.specs.RolesRecord.{roles_record};
 
 use mc_config::McConfig;
 
@@ -66,7 +66,7 @@ impl Roles {
 }
 
 pub fn tc_roles(pair: u32, tc: u8) -> Roles
-    ensures { result ≡ rolesRecord pair tc }
+    ensures { result ≡ roles_record pair tc }
 {
     let tc = tc as usize;
     match pair {
@@ -102,7 +102,7 @@ fn roles_in(rows: &[[u8; 3]], tc: usize, main: usize) -> Roles
 
 // The base channel that a crossed channel in this role copies.
 pub fn fallback_base_channel(role: u8, dyn_cross_lr: bool) -> usize
-    ensures { result ≡ fallbackOf role dyn_cross_lr }
+    ensures { result ≡ fallback_of role dyn_cross_lr }
 {
     match role {
         mc_config::LEFT | mc_config::LEFT_SURROUND | mc_config::SECOND_LEFT => 0,

@@ -11,48 +11,48 @@ use lib.ListN.{length, get_or, set}
 use lib.Seq.{ext_get_or}
 use borrow.Author.Tests.{ne_eqb, ltb-true}
 use Rattle.fill.specs.Tab.{tab}
-use Rattle.fill.specs.TabLaws.{length-tab, getD-tab}
+use Rattle.fill.proofs.TabLaws.{length-tab, get_or-tab}
 use Rattle.floats.specs.Binary64.{zero64}
-use Rattle.bitalloc.specs.Classes.{classIndex, class_at, isClass, class_of}
+use Rattle.bitalloc.specs.Classes.{class_index, class_at, is_class, class_of}
 use Rattle.bitalloc.specs.declared.QuantClass.{QuantClass}
 use Rattle.requant.specs.Requant.{requantized}
-use Rattle.mc_payload.specs.Unpack.{stepsFit}
-use Rattle.mc_values.specs.Values.{threeCodes, threeValues, first_at, valuesAt, rawBy, rawIn, rawFrom, spread, ValuesFit}
-use Rattle.mc_values.specs.ValuesLaws.{length-spread, spread-more, getD-spread, get_d_kept}
+use Rattle.mc_payload.specs.Unpack.{steps_fit}
+use Rattle.mc_values.specs.Values.{three_codes, three_values, first_at, values_at, raw_by, raw_in, raw_from, spread, ValuesFit}
+use Rattle.mc_values.proofs.ValuesLaws.{length-spread, spread-more, get_or-spread, get_or-kept}
 
-module _ (class : QuantClass) (x y z : ℕ) (codes : List ℕ) (e : codes ≡ threeCodes class.grouping class.nb_steps x y z) where
+module _ (class : QuantClass) (x y z : ℕ) (codes : List ℕ) (e : codes ≡ three_codes class.grouping class.nb_steps x y z) where
   pub code-small : ValuesFit class x y z → (k : ℕ) → get_or codes k 0 < 2 ^ class.bits_per_sample
   code-small f k = rw e (f.codes k)
 
   pub three_made : (u v w : Float) → u ≡ requantized class (get_or codes 0 0) → v ≡ requantized class (get_or codes 1 0) → w ≡ requantized class (get_or codes 2 0)
-      → u ∷ v ∷ w ∷ [] ≡ threeValues class x y z
-  unfolding threeValues
+      → u ∷ v ∷ w ∷ [] ≡ three_values class x y z
+  unfolding three_values
   three_made u v w eu ev ew = rw (eu, ev, ew, e)
 
 -- the class of n steps
-module _ (n index : ℕ) (e : index ≡ classIndex n) where
-  pub index-small : isClass n ≡ true → index < 17
-  index-small c = rw e (ltb-true (classIndex n) 17 c)
+module _ (n index : ℕ) (e : index ≡ class_index n) where
+  pub index-small : is_class n ≡ true → index < 17
+  index-small c = rw e (ltb-true (class_index n) 17 c)
 
   pub class-found : (class : QuantClass) → class ≡ class_at index → class ≡ class_of n
   class-found class f = rw (f, e)
 
 -- the values of granule gr of place i are those of its three slots
 module _ (n : ℕ) (granules : List ℕ) (i gr : ℕ) (class : QuantClass) (ec : class ≡ class_of n) (values : List Float)
-    (ev : values ≡ threeValues class (get_or granules (first_at gr i) 0) (get_or granules (first_at gr i + 1) 0) (get_or granules (first_at gr i + 2) 0)) where
-  slot-value : (k : ℕ) → k < 3 → get_or values k nan ≡ rawBy n granules i (3 * gr + k)
-  unfolding rawBy valuesAt
+    (ev : values ≡ three_values class (get_or granules (first_at gr i) 0) (get_or granules (first_at gr i + 1) 0) (get_or granules (first_at gr i + 2) 0)) where
+  slot-value : (k : ℕ) → k < 3 → get_or values k nan ≡ raw_by n granules i (3 * gr + k)
+  unfolding raw_by values_at
   slot-value k h =
       let d : (3 * gr + k) / 3 ≡ gr = omega arith in
       let m : (3 * gr + k) % 3 ≡ k = omega arith in
       rw (d, m, ← ec, ← ev)
 
   -- three stores
-  pub place-next : (a : ℕ) (raw d : List Float) → raw ≡ spread (rawBy n granules i) a (3 * gr) d
+  pub place-next : (a : ℕ) (raw d : List Float) → raw ≡ spread (raw_by n granules i) a (3 * gr) d
       → set (set (set raw (a + 96 * gr) (get_or values 0 nan)) (a + 96 * gr + 32) (get_or values 1 nan)) (a + 96 * gr + 64) (get_or values 2 nan)
-      ≡ spread (rawBy n granules i) a (3 * (gr + 1)) d
+      ≡ spread (raw_by n granules i) a (3 * (gr + 1)) d
   place-next a raw d e =
-      let f = rawBy n granules i in
+      let f = raw_by n granules i in
       let i₀ : a + 96 * gr ≡ a + 32 * (3 * gr + 0) = omega arith in
       let i₁ : a + 96 * gr + 32 ≡ a + 32 * (3 * gr + 1) = omega arith in
       let i₂ : a + 96 * gr + 64 ≡ a + 32 * (3 * gr + 2) = omega arith in
@@ -66,7 +66,7 @@ module _ (n : ℕ) (granules : List ℕ) (i gr : ℕ) (class : QuantClass) (ec :
       rw (s₁, s₂, i₂, slot-value 2 (omega arith), ← n₃) (spread-more f a (3 * gr + 2) d)
 
 -- a step count that may stand and is not 0 is that of a class
-pub own-fits : (n : ℕ) → stepsFit n ≡ true → (n ≡ 0 → ⊥) → isClass n ≡ true
+pub own-fits : (n : ℕ) → steps_fit n ≡ true → (n ≡ 0 → ⊥) → is_class n ≡ true
 own-fits n e h = rw (ne_eqb n 0 h) at e
 
 -- ---- the buffer, place by place
@@ -74,7 +74,7 @@ own-fits n e h = rw (ne_eqb n 0 h) at e
 -- before place i: the values of the places below i, and +0 elsewhere
 pub record Written (own granules : List ℕ) (raw : List Float) (i : ℕ) : Type 0 where
   pub long : length raw ≡ 3456
-  pub done : (m slot sb : ℕ) → m < 3 → slot < 36 → sb < 32 → 3 * sb + m < i → get_or raw (1152 * m + 32 * slot + sb) nan ≡ rawIn own granules m slot sb
+  pub done : (m slot sb : ℕ) → m < 3 → slot < 36 → sb < 32 → 3 * sb + m < i → get_or raw (1152 * m + 32 * slot + sb) nan ≡ raw_in own granules m slot sb
   pub rest : (m slot sb : ℕ) → m < 3 → slot < 36 → sb < 32 → i ≤ 3 * sb + m → get_or raw (1152 * m + 32 * slot + sb) nan ≡ zero64
 
 module _ (own granules : List ℕ) where
@@ -83,7 +83,7 @@ module _ (own granules : List ℕ) where
       record {
         long = rw (e, en) (length-tab (λ (k : ℕ). zero64) 3456);
         done = λ m slot sb hm hs hb l. absurd (omega arith);
-        rest = λ m slot sb hm hs hb l. rw (e, en) (getD-tab nan (λ (k : ℕ). zero64) 3456 (1152 * m + 32 * slot + sb) (omega arith));
+        rest = λ m slot sb hm hs hb l. rw (e, en) (get_or-tab nan (λ (k : ℕ). zero64) 3456 (1152 * m + 32 * slot + sb) (omega arith));
       }
 
   -- a place is known by any of its 36 slots in the buffer
@@ -99,7 +99,7 @@ module _ (own granules : List ℕ) where
 
   module _ (raw raw' : List Float) (i : ℕ) (w : Written own granules raw i) (h : i < 96) where
     pub written-skip : get_or own i 0 ≡ 0 → raw' ≡ raw → Written own granules raw' (i + 1)
-    unfolding rawIn
+    unfolding raw_in
     written-skip z e =
         rw e
         (record {
@@ -111,23 +111,23 @@ module _ (own granules : List ℕ) where
           rest = λ m slot sb hm hs hb l. w.rest m slot sb hm hs hb (omega arith);
         })
 
-    module _ (n : get_or own i 0 ≡ 0 → ⊥) (e : raw' ≡ spread (rawBy (get_or own i 0) granules i) (1152 * (i % 3) + i / 3) 36 raw) where
+    module _ (n : get_or own i 0 ≡ 0 → ⊥) (e : raw' ≡ spread (raw_by (get_or own i 0) granules i) (1152 * (i % 3) + i / 3) 36 raw) where
       a : ℕ
       a = 1152 * (i % 3) + i / 3
 
       f : ℕ → Float
-      f = rawBy (get_or own i 0) granules i
+      f = raw_by (get_or own i 0) granules i
 
-      here : (m slot sb : ℕ) → m < 3 → slot < 36 → sb < 32 → 3 * sb + m ≡ i → get_or raw' (1152 * m + 32 * slot + sb) nan ≡ rawIn own granules m slot sb
-      unfolding rawIn a f
+      here : (m slot sb : ℕ) → m < 3 → slot < 36 → sb < 32 → 3 * sb + m ≡ i → get_or raw' (1152 * m + 32 * slot + sb) nan ≡ raw_in own granules m slot sb
+      unfolding raw_in a f
       here m slot sb hm hs hb eq =
           let long = w.long in
           let j : 1152 * m + 32 * slot + sb ≡ a + 32 * slot = omega arith in
-          rw (e, j, eq, ne_eqb (get_or own i 0) 0 n) (getD-spread f a nan 36 raw slot hs (omega arith))
+          rw (e, j, eq, ne_eqb (get_or own i 0) 0 n) (get_or-spread f a nan 36 raw slot hs (omega arith))
 
       there : (m slot sb : ℕ) → m < 3 → slot < 36 → sb < 32 → (3 * sb + m ≡ i → ⊥) → get_or raw' (1152 * m + 32 * slot + sb) nan ≡ get_or raw (1152 * m + 32 * slot + sb) nan
       unfolding a f
-      there m slot sb hm hs hb ne = rw e (get_d_kept f a nan 36 raw (1152 * m + 32 * slot + sb) (λ j l eq. ne (same_place m slot sb j hm hs hb l h eq)))
+      there m slot sb hm hs hb ne = rw e (get_or-kept f a nan 36 raw (1152 * m + 32 * slot + sb) (λ j l eq. ne (same_place m slot sb j hm hs hb l h eq)))
 
       written-here : Written own granules raw' (i + 1)
       unfolding a f
@@ -142,16 +142,16 @@ module _ (own granules : List ℕ) where
           }
 
     -- the buffer as it comes back from a call that writes the place
-    pub written-place : (get_or own i 0 ≡ 0 → ⊥) → (left : List Float) → left ≡ spread (rawBy (get_or own i 0) granules i) (1152 * (i % 3) + i / 3) 36 raw → raw' ≡ left
+    pub written-place : (get_or own i 0 ≡ 0 → ⊥) → (left : List Float) → left ≡ spread (raw_by (get_or own i 0) granules i) (1152 * (i % 3) + i / 3) 36 raw → raw' ≡ left
         → Written own granules raw' (i + 1)
     written-place n left e e' = written-here n (e' ∙ e)
 
-  pub written_all : (raw : List Float) (i : ℕ) → Written own granules raw i → 96 ≤ i → raw ≡ rawFrom own granules
-  unfolding rawFrom
+  pub written_all : (raw : List Float) (i : ℕ) → Written own granules raw i → 96 ≤ i → raw ≡ raw_from own granules
+  unfolding raw_from
   written_all raw i w h =
-      let cell : ℕ → Float = λ k. rawIn own granules (k / 1152) (k / 32 % 36) (k % 32) in
+      let cell : ℕ → Float = λ k. raw_in own granules (k / 1152) (k / 32 % 36) (k % 32) in
       let long = w.long in
       ext_get_or nan raw (tab cell 3456) (long ∙ sym (length-tab cell 3456))
       (λ k l. let p : 1152 * (k / 1152) + 32 * (k / 32 % 36) + k % 32 ≡ k = omega arith in
       (rw p at (w.done (k / 1152) (k / 32 % 36) (k % 32) (omega arith) (omega arith) (omega arith) (omega arith)))
-      ∙ sym (getD-tab nan cell 3456 k (omega arith)))
+      ∙ sym (get_or-tab nan cell 3456 k (omega arith)))

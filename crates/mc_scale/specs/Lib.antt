@@ -1,4 +1,3 @@
 pub mod Scale
 pub mod TwoSteps
 pub mod Code
-pub mod Laws

@@ -4,9 +4,9 @@
 ghost use Rattle.std.specs.Prelude.{◌≡◌, ℕ, ◌+◌, ◌*◌, ◌/◌, ◌%◌, ◌<◌, ◌≤◌, length, get_or};
 ghost use Rattle.mc_base.specs.Base.{chosen};
 ghost use Rattle.mc_scale.specs.Code.Strided.{column};
-ghost use Rattle.mc_scale.specs.Code.Column.{columnAt};
-ghost use Rattle.mc_scale.specs.Code.ScaleByPlace.{factorsOf, timesFactor, scaledFrom, PlacesFit, scaledByPlace};
-ghost use Rattle.mc_scale.specs.Code.TwoSteps.{twoStepsByPlace};
+ghost use Rattle.mc_scale.specs.Code.Column.{column_at};
+ghost use Rattle.mc_scale.specs.Code.ScaleByPlace.{factors_of, times_factor, scaled_from, PlacesFit, scaled_by_place};
+ghost use Rattle.mc_scale.specs.Code.TwoSteps.{two_steps_by_place};
 
 use mc_base::chosen;
 use mc_crosstalk::{FROM_BASE, TRANSMITTED};
@@ -14,7 +14,7 @@ use mc_crosstalk::{FROM_BASE, TRANSMITTED};
 // The factors of all places, each looked up once.
 fn factors_of(scalefactor: &[u8; 288]) -> [f64; 288]
     requires { (i : ℕ) → i < 288 → get_or scalefactor.now i 0 < 63 }
-    ensures { result ≡ factorsOf scalefactor.now }
+    ensures { result ≡ factors_of scalefactor.now }
 {
     let table = tables::scalefactor_table();
     let mut factors = [0.0f64; 288];
@@ -35,7 +35,7 @@ fn scale_column(
     at: usize,
 )
     requires { (from + 1120 < length src.now) × (place < 96) × (at + 1120 < length work.old) }
-    ensures { work.new ≡ column (timesFactor src.now from factors.now place) at work.old }
+    ensures { work.new ≡ column (times_factor src.now from factors.now place) at work.old }
 {
     for slot in 0usize..36 {
         work[at + 32 * slot] = src[from + 32 * slot] * factors[3 * place + slot / 12];
@@ -54,7 +54,7 @@ fn scale_place<'a>(
     work: &mut [f64],
 )
     requires { (place < 96) × (source ≤ 4) × (length raw.now ≡ 3456) × (length (chosen base left.now right.now) ≡ 1152) × (length work.old ≡ 3456) }
-    ensures { work.new ≡ column (scaledFrom source base factors.now raw.now left.now right.now place) (columnAt place) work.old }
+    ensures { work.new ≡ column (scaled_from source base factors.now raw.now left.now right.now place) (column_at place) work.old }
 {
     let sb = place / 3;
     let at = 1152 * (place % 3) + sb;
@@ -80,8 +80,8 @@ pub fn scale<'a>(
 )
     requires places_fit { PlacesFit source.now base.now scalefactor.now left.now right.now }
     requires lengths { (length raw.now ≡ 3456) × (length work.old ≡ 3456) }
-    ensures scaled { work.new ≡ scaledByPlace steps.now source.now base.now (factorsOf scalefactor.now) raw.now left.now right.now }
-    ensures two_steps { work.new ≡ twoStepsByPlace steps.now source.now base.now (factorsOf scalefactor.now) raw.now left.now right.now work.old }
+    ensures scaled { work.new ≡ scaled_by_place steps.now source.now base.now (factors_of scalefactor.now) raw.now left.now right.now }
+    ensures two_steps { work.new ≡ two_steps_by_place steps.now source.now base.now (factors_of scalefactor.now) raw.now left.now right.now work.old }
 {
     let factors = factors_of(scalefactor);
     fill::clear(work);

@@ -4,9 +4,9 @@ use Rattle.std.specs.Float.{nan}
 use Rattle.std.specs.Float.Ieee.{neg}
 use Rattle.floats.specs.Binary64.{zero64}
 use Rattle.floats.specs.Decimal.{decimal}
-use Rattle.bitalloc.specs.Classes.{cOf}
-use Rattle.requant.specs.Requant.{rawOf, degrouped, lfeOf, coefficientOf}
-use Rattle.mc_config.specs.Groups.{sbgrOf}
+use Rattle.bitalloc.specs.Classes.{c_of}
+use Rattle.requant.specs.Requant.{raw_of, degrouped, lfe_of, coefficient_of}
+use Rattle.mc_config.specs.Groups.{sbgr_of}
 use Rattle.mc_crosstalk.specs.Crosstalk.{listed}
 use Rattle.mc_payload.specs.declared.McSettings.{McSettings}
 use Rattle.mc_base.specs.Base.{Base}
@@ -30,19 +30,19 @@ pub data Row : Type 0 where
 
 -- what a row says
 unfoldable pub Holds : Row → Type 0
-Holds (sample steps code x) = rawOf steps code ≡ x
+Holds (sample steps code x) = raw_of steps code ≡ x
 Holds (group steps code digits) = degrouped steps code ≡ digits
-Holds (coefficient byte x) = coefficientOf byte ≡ x
-Holds (lfe bits code x) = lfeOf bits code ≡ x
+Holds (coefficient byte x) = coefficient_of byte ≡ x
+Holds (lfe bits code x) = lfe_of bits code ≡ x
 Holds (crosstalk pair code passes) = listed pair code ≡ passes
 Holds (history delay k slot place) =
     (s : McSettings) (base : Base) (h : List Float) (ch sb : ℕ) → earlier s base h ch sb (9 + slot - delay - k) ≡ get_or h ((32 * ch + sb) * 9 + place) nan
-Holds (subband sb g) = sbgrOf sb ≡ g
+Holds (subband sb g) = sbgr_of sb ≡ g
 
 unfoldable pub rows : List Row
 rows =
     sample 3 1 zero64
-    ∷ sample 7 7 (cOf 7)
+    ∷ sample 7 7 (c_of 7)
     ∷ group 3 26 (2 ∷ 2 ∷ 2 ∷ [])
     ∷ group 3 27 (0 ∷ 0 ∷ 0 ∷ [])
     ∷ group 3 31 (1 ∷ 1 ∷ 0 ∷ [])

@@ -1,7 +1,7 @@
 -- A state carried over to another reading, and one of before there were desks converted (document 02, L7 and L8).
 use Rattle.std.specs.Prelude.{Bool, ◌&&◌, cond, List, ◌∷◌, ℕ, eqb, Float, length, replicate}
 use Rattle.mc_state.specs.declared.McDecodeState.{McDecodeState}
-use Rattle.mc_state.specs.Held.{heldFits}
+use Rattle.mc_state.specs.Held.{held_fits}
 
 pub record Carrying : Type 0 where
   -- 0, or the refusal's number
@@ -17,8 +17,8 @@ abbrev pub counted : McDecodeState → McDecodeState
 counted st = record { pred_hist = st.pred_hist; layout_len = st.layout_len; layout = 0; accepted = st.accepted }
 
 -- refused only for a wrong count or layout
-unfoldable pub carriedOver : McDecodeState → Carrying
-carriedOver st = replacing (heldFits st.layout_len st.layout) (counted st) st
+unfoldable pub carried_over : McDecodeState → Carrying
+carried_over st = replacing (held_fits st.layout_len st.layout) (counted st) st
 
 -- ---- a state with one tally, by its fields; before there were layouts, its layout is 0
 
@@ -27,5 +27,5 @@ abbrev pub converted : List Float → ℕ → ℕ → ℕ → McDecodeState
 converted history count layout tally = record { pred_hist = history; layout_len = count; layout = layout; accepted = tally ∷ replicate 7 0 }
 
 -- refused as carrying is, and for a history of another length
-unfoldable pub convertedOver : List Float → ℕ → ℕ → ℕ → McDecodeState → Carrying
-convertedOver history count layout tally st = replacing (eqb (length history) 576 && heldFits count layout) (converted history count layout tally) st
+unfoldable pub converted_over : List Float → ℕ → ℕ → ℕ → McDecodeState → Carrying
+converted_over history count layout tally st = replacing (eqb (length history) 576 && held_fits count layout) (converted history count layout tally) st

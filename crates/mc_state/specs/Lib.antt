@@ -1,16 +1,9 @@
 pub mod Held
-pub mod HeldLaws
 pub mod Desk
 pub mod Frame
 pub mod Carry
 pub mod Answer
-pub mod CarryLaws
 pub mod Demand1
 pub mod Reel
-pub mod AlikeLaws
-pub mod ReadingLaws
-pub mod DeskLaws
 pub mod Long
-pub mod PackLaws
 pub mod Boundary
-pub mod BoundaryProof

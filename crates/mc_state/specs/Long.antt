@@ -4,11 +4,11 @@ use Rattle.mc_base.specs.Base.{Base}
 use Rattle.mc_state.specs.Frame.{Buffers}
 
 -- the lengths of what is lent
-pub record Long (baseChannels : ℕ) (base : Base) (w : Buffers) : Type 0 where
-  pub rawLeft : length base.rawLeft ≡ 1152
-  pub rawRight : length base.rawRight ≡ cond (eqb baseChannels 1) 0 1152
-  pub scaledLeft : length base.scaledLeft ≡ 1152
-  pub scaledRight : length base.scaledRight ≡ cond (eqb baseChannels 1) 0 1152
+pub record Long (base_channels : ℕ) (base : Base) (w : Buffers) : Type 0 where
+  pub raw_left : length base.raw_left ≡ 1152
+  pub raw_right : length base.raw_right ≡ cond (eqb base_channels 1) 0 1152
+  pub scaled_left : length base.scaled_left ≡ 1152
+  pub scaled_right : length base.scaled_right ≡ cond (eqb base_channels 1) 0 1152
   pub raw : length w.raw ≡ 3456
   pub work : length w.work ≡ 3456
   pub output : length w.output ≡ 5760

@@ -1,13 +1,11 @@
 -- Sequences of frame calls on one state, accepted and refused, from any desks, and a change of readings among them (document 02, L7 and L8). The calls name
 -- their own readings: those before the change may be under reading 1 and those after it under reading 2.
-pub mod Proof
-pub mod Own
 use Rattle.std.specs.Prelude.{◌≡◌, true, cond, List, [], ◌∷◌, ◌++◌, map, ℕ, ◌+◌, ◌≤◌, eqb, ltb, Float, length}
 use Rattle.bits.specs.Syntax.{Outcome, accepted, refused}
 use Rattle.mc_state.specs.declared.McDecodeState.{McDecodeState}
-use Rattle.mc_state.specs.Held.{heldFits}
-use Rattle.mc_state.specs.Desk.{deskFits, top, tallyAt}
-use Rattle.mc_state.specs.Carry.{carriedOver, convertedOver}
+use Rattle.mc_state.specs.Held.{held_fits}
+use Rattle.mc_state.specs.Desk.{desk_fits, top, tally_at}
+use Rattle.mc_state.specs.Carry.{carried_over, converted_over}
 use Rattle.mc_state.specs.Frame.{Lent, Buffers, After, frame_of, fresh}
 
 -- a frame call, beside the state
@@ -31,13 +29,13 @@ unfoldable pub results : List Call → McDecodeState → List Result
 results [] st = []
 results (c ∷ more) st = result_of (calling c st) ∷ results more (calling c st).state
 
-unfoldable pub stateAfter : List Call → McDecodeState → McDecodeState
-stateAfter [] st = st
-stateAfter (c ∷ more) st = stateAfter more (calling c st).state
+unfoldable pub state_after : List Call → McDecodeState → McDecodeState
+state_after [] st = st
+state_after (c ∷ more) st = state_after more (calling c st).state
 
 -- a state by its history, count, layout and tallies
-abbrev pub stateBy : List Float → ℕ → ℕ → List ℕ → McDecodeState
-stateBy history count layout tallies = record { pred_hist = history; layout_len = count; layout = layout; accepted = tallies }
+abbrev pub state_by : List Float → ℕ → ℕ → List ℕ → McDecodeState
+state_by history count layout tallies = record { pred_hist = history; layout_len = count; layout = layout; accepted = tallies }
 
 -- ---- tallies and desks enter no answer, no value and nothing else that is kept
 
@@ -50,7 +48,7 @@ pub record SameReel (st st' : McDecodeState) : Type 0 where
 -- two sequences of calls have the same answers, buffers, history and layout
 pub record SameResults (cs cs' : List Call) (st st' : McDecodeState) : Type 0 where
   pub same : results cs st ≡ results cs' st'
-  pub after : SameReel (stateAfter cs st) (stateAfter cs' st')
+  pub after : SameReel (state_after cs st) (state_after cs' st')
 
 -- later calls can not tell two states apart
 abbrev pub SameFrom : List Call → McDecodeState → McDecodeState → Type 0
@@ -61,29 +59,29 @@ abbrev pub NeverTheTally : Type 0
 NeverTheTally = (cs : List Call) (st st' : McDecodeState) → SameReel st st' → SameFrom cs st st'
 
 -- the same loan from another desk
-abbrev pub atDesk : ℕ → Lent → Lent
-atDesk desk l =
+abbrev pub at_desk : ℕ → Lent → Lent
+at_desk desk l =
     record {
       head = l.head;
       head_bits = l.head_bits;
       payload = l.payload;
-      payloadBits = l.payloadBits;
+      payload_bits = l.payload_bits;
       reading = l.reading;
       desk = desk;
       rate = l.rate;
-      baseChannels = l.baseChannels;
+      base_channels = l.base_channels;
       base = l.base;
-      baseSteps = l.baseSteps;
+      base_steps = l.base_steps;
       lfe = l.lfe;
       steps = l.steps;
     }
 
 -- the same call, from any two of the eight desks
 pub record SameButDesk (c c' : Call) : Type 0 where
-  pub lent : c.lent ≡ atDesk c.lent.desk c'.lent
+  pub lent : c.lent ≡ at_desk c.lent.desk c'.lent
   pub buffers : c.buffers ≡ c'.buffers
-  pub desk : deskFits c.lent.desk ≡ true
-  pub desk' : deskFits c'.lent.desk ≡ true
+  pub desk : desk_fits c.lent.desk ≡ true
+  pub desk' : desk_fits c'.lent.desk ≡ true
 
 unfoldable pub OtherDesks : List Call → List Call → Type 0
 OtherDesks [] [] = Unit {0}
@@ -100,7 +98,7 @@ NeverTheDesk = (cs cs' : List Call) (st st' : McDecodeState) → OtherDesks cs c
 -- what the type of the tallies gives: eight, of 32 bits each
 pub record Tallies (st : McDecodeState) : Type 0 where
   pub eight : length st.accepted ≡ 8
-  pub small : (desk : ℕ) → tallyAt st.accepted desk ≤ top
+  pub small : (desk : ℕ) → tally_at st.accepted desk ≤ top
 
 -- up to the top
 abbrev pub capped : ℕ → ℕ
@@ -108,25 +106,25 @@ capped n = cond (ltb n top) n top
 
 -- an accepted frame is one
 abbrev pub one : Outcome ℕ → ℕ
-one (accepted headUsed used) = 1
+one (accepted head_used used) = 1
 one (refused x) = 0
 
 -- how many of the calls are accepted and name the desk
-unfoldable pub acceptedAt : ℕ → List Call → McDecodeState → ℕ
-acceptedAt desk [] st = 0
-acceptedAt desk (c ∷ more) st = cond (eqb c.lent.desk desk) (one (calling c st).answer) 0 + acceptedAt desk more (calling c st).state
+unfoldable pub accepted_at : ℕ → List Call → McDecodeState → ℕ
+accepted_at desk [] st = 0
+accepted_at desk (c ∷ more) st = cond (eqb c.lent.desk desk) (one (calling c st).answer) 0 + accepted_at desk more (calling c st).state
 
 -- its tally is what it was and the frames that it had accepted, up to the top
 abbrev pub OwnTally : Type 0
 OwnTally =
-    (desk : ℕ) (cs : List Call) (st : McDecodeState) → deskFits desk ≡ true → Tallies st
-    → tallyAt (stateAfter cs st).accepted desk ≡ capped (tallyAt st.accepted desk + acceptedAt desk cs st)
+    (desk : ℕ) (cs : List Call) (st : McDecodeState) → desk_fits desk ≡ true → Tallies st
+    → tally_at (state_after cs st).accepted desk ≡ capped (tally_at st.accepted desk + accepted_at desk cs st)
 
 -- ---- one change in a sequence
 
 -- what may be lent of a state beside its history
 abbrev pub Holds : McDecodeState → Type 0
-Holds st = heldFits st.layout_len st.layout ≡ true
+Holds st = held_fits st.layout_len st.layout ≡ true
 
 abbrev pub FreshHolds : Type 0
 FreshHolds = Holds fresh
@@ -143,30 +141,30 @@ pub data Report : Type 0 where
 unfoldable pub reel : List Step → McDecodeState → List Report
 reel [] st = []
 reel (call c ∷ more) st = read (result_of (calling c st)) ∷ reel more (calling c st).state
-reel (change ∷ more) st = carried (carriedOver st).answer ∷ reel more (carriedOver st).state
+reel (change ∷ more) st = carried (carried_over st).answer ∷ reel more (carried_over st).state
 
 -- a reel that begins with a state that may be lent takes the change, and the calls after it give what they give from that history and count, whatever the
 -- tallies
 abbrev pub ChangedInMidReel : Type 0
 ChangedInMidReel =
     (before after : List Call) (st : McDecodeState) (tallies : List ℕ) → Holds st
-    → let left = stateAfter before st in
+    → let left = state_after before st in
     reel (map call before ++ change ∷ map call after) st
-    ≡ map read (results before st) ++ carried 0 ∷ map read (results after (stateBy left.pred_hist left.layout_len 0 tallies))
+    ≡ map read (results before st) ++ carried 0 ∷ map read (results after (state_by left.pred_hist left.layout_len 0 tallies))
 
 -- a carried state of count 0 is as a fresh one, but for its history and tallies
 abbrev pub CarriedFresh : Type 0
 CarriedFresh =
     (cs : List Call) (st : McDecodeState) (tallies : List ℕ) → Holds st → st.layout_len ≡ 0
-    → SameFrom cs (carriedOver st).state (stateBy st.pred_hist fresh.layout_len fresh.layout tallies)
+    → SameFrom cs (carried_over st).state (state_by st.pred_hist fresh.layout_len fresh.layout tallies)
 
 -- ---- a state of before there were desks
 
 -- calls on a converted state give what they give from that history, count and layout, whatever the tallies
 abbrev pub ConvertedGoesOn : Type 0
 ConvertedGoesOn =
-    (cs : List Call) (history : List Float) (count layout tally : ℕ) (st : McDecodeState) (tallies : List ℕ) → length history ≡ 576 → heldFits count layout ≡ true
-    → SameFrom cs (convertedOver history count layout tally st).state (stateBy history count layout tallies)
+    (cs : List Call) (history : List Float) (count layout tally : ℕ) (st : McDecodeState) (tallies : List ℕ) → length history ≡ 576 → held_fits count layout ≡ true
+    → SameFrom cs (converted_over history count layout tally st).state (state_by history count layout tallies)
 
 -- ---- calls under reading 1
 
@@ -180,4 +178,4 @@ pub record Kept (st st' : McDecodeState) : Type 0 where
   pub count : (st.layout_len ≡ 0 → ⊥) → st'.layout_len ≡ st.layout_len
 
 abbrev pub FirstKeeps : Type 0
-FirstKeeps = (cs : List Call) (st : McDecodeState) → UnderFirst cs → Kept st (stateAfter cs st)
+FirstKeeps = (cs : List Call) (st : McDecodeState) → UnderFirst cs → Kept st (state_after cs st)

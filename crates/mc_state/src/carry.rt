@@ -1,7 +1,7 @@
 // A state carried over to another reading.
 ghost use Rattle.std.specs.Prelude.{◌≡◌};
-ghost use Rattle.mc_state.specs.Answer.{carryingOf};
-ghost use Rattle.mc_state.specs.Carry.{carriedOver};
+ghost use Rattle.mc_state.specs.Answer.{carrying_of};
+ghost use Rattle.mc_state.specs.Carry.{carried_over};
 
 use crate::held::held_fits;
 use crate::{CarriedState, CarryAnswer, McDecodeState};
@@ -10,7 +10,7 @@ use mc_error::McError;
 impl McDecodeState {
     // Keeps all but the layout, of which the count stays. Refuses only a wrong count or layout, and looks at no value of the history.
     pub fn carry(self) -> CarriedState
-        ensures { carryingOf result.answer result.state ≡ carriedOver self }
+        ensures { carrying_of result.answer result.state ≡ carried_over self }
     {
         if !held_fits(self.layout_len, self.layout) {
             return CarriedState {

@@ -1,7 +1,7 @@
 // A state of before there were desks.
 ghost use Rattle.std.specs.Prelude.{◌≡◌, length};
-ghost use Rattle.mc_state.specs.Answer.{carryingOf};
-ghost use Rattle.mc_state.specs.Carry.{convertedOver};
+ghost use Rattle.mc_state.specs.Answer.{carrying_of};
+ghost use Rattle.mc_state.specs.Carry.{converted_over};
 
 use crate::held::held_fits;
 use crate::{CarriedState, CarryAnswer, McDecodeState};
@@ -28,7 +28,7 @@ impl McDecodeState {
         layout: u8,
         accepted: u32,
     ) -> CarriedState
-        ensures { carryingOf result.answer result.state ≡ convertedOver pred_hist.now layout_len layout accepted self }
+        ensures { carrying_of result.answer result.state ≡ converted_over pred_hist.now layout_len layout accepted self }
     {
         let long = pred_hist.len() == 576;
         let held = held_fits(layout_len, layout);

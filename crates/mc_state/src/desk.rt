@@ -1,10 +1,10 @@
 // The desks' tallies.
 ghost use Rattle.std.specs.Prelude.{◌≡◌, ◌≤◌};
-ghost use Rattle.mc_state.specs.Desk.{oneMore, tallied as Desk·tallied};
+ghost use Rattle.mc_state.specs.Desk.{one_more, tallied as Desk·tallied};
 
 // A tally after one more accepted frame.
 fn one_more(tally: u32) -> u32
-    ensures { result ≡ oneMore tally }
+    ensures { result ≡ one_more tally }
 {
     if tally < 4294967295 {
         tally + 1

@@ -1,11 +1,11 @@
 // What a state holds of the layout.
 ghost use Rattle.std.specs.Prelude.{◌≡◌, length, eqb};
-ghost use Rattle.mc_config.specs.Config.{surroundOf, frontChannels, surroundChannels};
-ghost use Rattle.mc_state.specs.Held.{channelsBy, isLayout, heldFits, followsBy, layoutAfter};
+ghost use Rattle.mc_config.specs.Config.{surround_of, front_channels, surround_channels};
+ghost use Rattle.mc_state.specs.Held.{channels_by, is_layout, held_fits, follows_by, layout_after};
 
 // Front channels of a layout.
 fn front_count(front: u8) -> u8
-    ensures { result ≡ length (frontChannels front) }
+    ensures { result ≡ length (front_channels front) }
 {
     match front {
         1 => 1,
@@ -16,7 +16,7 @@ fn front_count(front: u8) -> u8
 
 // Channels beyond the front, by the surround code.
 fn surround_count(surround: u8) -> u8
-    ensures { result ≡ length (surroundChannels (surroundOf surround) (eqb surround 3)) }
+    ensures { result ≡ length (surround_channels (surround_of surround) (eqb surround 3)) }
 {
     match surround {
         3 => 2,
@@ -28,21 +28,21 @@ fn surround_count(surround: u8) -> u8
 
 // Output channels of a layout, by its front and surround code.
 pub fn channel_count(front: u8, surround: u8) -> u8
-    ensures { result ≡ length (channelsBy front surround) }
+    ensures { result ≡ length (channels_by front surround) }
 {
     front_count(front) + surround_count(surround)
 }
 
 // A layout that some header gives, by number.
 fn is_layout(layout: u8) -> bool
-    ensures { result ≡ isLayout layout }
+    ensures { result ≡ is_layout layout }
 {
     (10 <= layout) & ((layout <= 33) & (layout % 10 <= 3))
 }
 
 // A count of at most five, and no layout or one of that count.
 pub fn held_fits(count: u8, layout: u8) -> bool
-    ensures { result ≡ heldFits count layout }
+    ensures { result ≡ held_fits count layout }
 {
     if layout == 0 {
         return count <= 5;
@@ -53,7 +53,7 @@ pub fn held_fits(count: u8, layout: u8) -> bool
 
 // Whether a frame of n channels and the layout `own` may follow.
 pub fn layout_follows(reading: u32, count: u8, layout: u8, n: u8, own: u8) -> bool
-    ensures { result ≡ followsBy reading count layout n own }
+    ensures { result ≡ follows_by reading count layout n own }
 {
     if count == 0 {
         return true;
@@ -66,7 +66,7 @@ pub fn layout_follows(reading: u32, count: u8, layout: u8, n: u8, own: u8) -> bo
 
 // The layout that is held after an accepted frame of the layout `own`.
 pub fn layout_after(reading: u32, layout: u8, own: u8) -> u8
-    ensures { result ≡ layoutAfter reading layout own }
+    ensures { result ≡ layout_after reading layout own }
 {
     if reading == 2 { own } else { layout }
 }

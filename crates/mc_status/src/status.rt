@@ -4,8 +4,8 @@ ghost use Rattle.cursor.specs.Cursor.{run_from};
 ghost use Rattle.cursor.specs.Ran.{Ran};
 ghost use Rattle.bits.specs.Syntax.{times};
 ghost use Rattle.mc_config.specs.Config.{pair_of};
-ghost use Rattle.mc_crosstalk.specs.Crosstalk.{predictorsOf};
-ghost use Rattle.mc_fields.specs.Head.{tcAllocation, dynCross, modeAt, predsiAt, prediction, firstForbidden, checkModes, mcCompositeStatusInfo};
+ghost use Rattle.mc_crosstalk.specs.Crosstalk.{predictors_of};
+ghost use Rattle.mc_fields.specs.Head.{tc_allocation, dyn_cross, mode_at, predsi_at, prediction, first_forbidden, check_modes, mc_composite_status_info};
 
 use cursor::{Cursor, read};
 use mc_config::McConfig;
@@ -22,7 +22,7 @@ pub struct TcRead {
 // tc_allocation of the twelve groups: read once for all, or for each.
 pub fn read_tc_allocation(bytes: &[u8], limit: usize, c: Cursor, once: bool, bits: usize) -> TcRead
     requires { bits ≤ 8 }
-    ensures { Ran bytes.now limit c (tcAllocation once bits) result.cursor result.table }
+    ensures { Ran bytes.now limit c (tc_allocation once bits) result.cursor result.table }
 {
     if once {
         let all = read(bytes, limit, c, bits);
@@ -57,7 +57,7 @@ pub fn read_dyn_cross(
     second_bits: usize,
 ) -> CrossRead
     requires { (mode_bits ≤ 8) × (second_bits ≤ 8) }
-    ensures { Ran bytes.now limit c (dynCross mode_bits second_bits) result.cursor result.table }
+    ensures { Ran bytes.now limit c (dyn_cross mode_bits second_bits) result.cursor result.table }
 {
     let mut table = [0u8; 24];
     let mut cursor = c;
@@ -88,7 +88,7 @@ fn read_predsi(
     so_far: [u8; 56],
 ) -> PredictionRead
     requires { (g < 8) × (n ≤ 6) }
-    ensures { Ran bytes.now limit c (times n 0 (predsiAt g) so_far) result.cursor result.table }
+    ensures { Ran bytes.now limit c (times n 0 (predsi_at g) so_far) result.cursor result.table }
 {
     let mut table = so_far;
     let mut cursor = c;
@@ -103,7 +103,7 @@ fn read_predsi(
 
 // The predictors of a group whose flag is set; else none.
 fn predictors_if(flag: bool, pair: u32, mode: u8) -> usize
-    ensures { result ≡ cond flag (predictorsOf pair mode) 0 }
+    ensures { result ≡ cond flag (predictors_of pair mode) 0 }
 {
     if flag { npred_for(pair, mode) } else { 0 }
 }
@@ -117,7 +117,7 @@ pub fn read_prediction(
     pair: u32,
     dyn_cross: &[u8; 24],
 ) -> PredictionRead
-    ensures { Ran bytes.now limit c (prediction on (λ g. predictorsOf pair (modeAt dyn_cross.now g))) result.cursor result.table }
+    ensures { Ran bytes.now limit c (prediction on (λ g. predictors_of pair (mode_at dyn_cross.now g))) result.cursor result.table }
 {
     let mut table = [0u8; 56];
     let mut cursor = c;
@@ -136,7 +136,7 @@ pub fn read_prediction(
 
 // The lowest group whose code is not listed; 12 where all are.
 pub fn first_forbidden(pair: u32, dyn_cross: &[u8; 24]) -> usize
-    ensures { result ≡ firstForbidden pair dyn_cross.now 12 0 }
+    ensures { result ≡ first_forbidden pair dyn_cross.now 12 0 }
 {
     let mut g: usize = 0;
     while g < McConfig::GROUPS {
@@ -158,8 +158,8 @@ pub struct StatusRead {
 // All of mc_composite_status_info() but the test of the codes, which comes after its last bit.
 pub fn read_status(bytes: &[u8], limit: usize, c: Cursor, config: McConfig) -> StatusRead
     requires { (config.tc_allocation_bits ≤ 8) × (config.dyn_cross_bits ≤ 8) }
-    ensures { run_from bytes.now limit c (mcCompositeStatusInfo config)
-        ≡ run_from bytes.now limit result.cursor (checkModes (pair_of config) result.status.dyn_cross result.status) }
+    ensures { run_from bytes.now limit c (mc_composite_status_info config)
+        ≡ run_from bytes.now limit result.cursor (check_modes (pair_of config) result.status.dyn_cross result.status) }
 {
     let once = read(bytes, limit, c, 1);
     let cross = read(bytes, limit, once, 1);

@@ -1,2 +1,4 @@
 pub mod EntryDecided
 pub mod EntryAnswer
+pub mod RecordLaws
+pub mod SettledLaws

@@ -1,14 +1,14 @@
 -- What an unpacking call answers, and what it leaves in the tables beside the answer and in both buffers.
 use Rattle.std.specs.Prelude.{Bool, ◌&&◌, cond, List, ℕ, eqb, Float, length, replicate}
 use Rattle.bits.specs.Syntax.{Outcome, plain, accepted, refused}
-use Rattle.mc_error.specs.Error.{refusalOf}
+use Rattle.mc_error.specs.Error.{refusal_of}
 use Rattle.mc_payload.specs.declared.McSettings.{McSettings}
 use Rattle.mc_unpack.specs.declared.entry.Unpacked.{Unpacked}
 use Rattle.mc_unpack.specs.declared.entry.UnpackAnswer.{UnpackAnswer}
 use Rattle.mc_unpack.specs.declared.entry.UnpackAnswer.TheVariants.{Accepted, Refused}
 use Rattle.mc_payload.specs.Payload.{Codes}
-use Rattle.mc_payload.specs.Record.{rawOf, lfeOf}
-use Rattle.mc_payload.specs.Unpack.{Loan, settingsOf, unpackOf}
+use Rattle.mc_payload.specs.Record.{raw_of, lfe_of}
+use Rattle.mc_payload.specs.Unpack.{Loan, settings_of, unpack_of}
 
 -- the tables of a record: scfsi, predictor codes, the LFE channel's scalefactor index, and scalefactor indices
 abbrev pub Tables : Type 0
@@ -17,8 +17,8 @@ Tables = List ℕ × (List ℕ × (ℕ × List ℕ))
 abbrev pub tables_of : Codes → Tables
 tables_of c = (c.0, (c.1.0, (c.1.1.0, c.1.1.1.0)))
 
-abbrev pub noTables : Tables
-noTables = (replicate 96 0, (replicate 192 0, (0, replicate 288 0)))
+abbrev pub no_tables : Tables
+no_tables = (replicate 96 0, (replicate 192 0, (0, replicate 288 0)))
 
 -- ---- what is left
 
@@ -32,7 +32,7 @@ pub record After : Type 0 where
 -- what the call's answer says, beside the buffers
 abbrev pub answered : UnpackAnswer → Tables → Outcome Tables
 answered (Accepted used) t = accepted t used
-answered (Refused e) t = refused (refusalOf e)
+answered (Refused e) t = refused (refusal_of e)
 
 abbrev pub values_of : Unpacked → Tables
 values_of r = (r.scfsi, (r.predictors, (r.lf_scalefactor, r.scalefactors)))
@@ -41,17 +41,17 @@ abbrev pub after_of : Unpacked → List Float → List Float → After
 after_of r raw lfe = record { outcome = answered r.answer (values_of r); tables = values_of r; raw = raw; lfe = lfe }
 
 -- what it has to say: buffers of any other length are a wrong loan, refusal 6
-abbrev pub roomFits : ℕ → ℕ → Bool
-roomFits raw lfe = eqb raw 3456 && eqb lfe 12
+abbrev pub room_fits : ℕ → ℕ → Bool
+room_fits raw lfe = eqb raw 3456 && eqb lfe 12
 
-unfoldable pub checkedOf : Loan → List ℕ → ℕ → ℕ → ℕ → Outcome Codes
-checkedOf l bytes bits raw lfe = cond (roomFits raw lfe) (unpackOf l bytes bits) (refused (plain 6))
+unfoldable pub checked_of : Loan → List ℕ → ℕ → ℕ → ℕ → Outcome Codes
+checked_of l bytes bits raw lfe = cond (room_fits raw lfe) (unpack_of l bytes bits) (refused (plain 6))
 
 -- the record's tables and samples; a refusal leaves both buffers as they were
 abbrev pub leaves : McSettings → List Float → List Float → Outcome Codes → After
 leaves s raw lfe (accepted c used) =
-    record { outcome = accepted (tables_of c) used; tables = tables_of c; raw = rawOf s c; lfe = lfeOf s.lfe_allocation c }
-leaves s raw lfe (refused x) = record { outcome = refused x; tables = noTables; raw = raw; lfe = lfe }
+    record { outcome = accepted (tables_of c) used; tables = tables_of c; raw = raw_of s c; lfe = lfe_of s.lfe_allocation c }
+leaves s raw lfe (refused x) = record { outcome = refused x; tables = no_tables; raw = raw; lfe = lfe }
 
-unfoldable pub unpackCall : Loan → List ℕ → ℕ → List Float → List Float → After
-unpackCall l bytes bits raw lfe = leaves (settingsOf l) raw lfe (checkedOf l bytes bits (length raw) (length lfe))
+unfoldable pub unpack_call : Loan → List ℕ → ℕ → List Float → List Float → After
+unpack_call l bytes bits raw lfe = leaves (settings_of l) raw lfe (checked_of l bytes bits (length raw) (length lfe))

@@ -1,6 +1,4 @@
 -- what unpacking answers, and the same by the tables that the code holds
 pub mod Answer
 pub mod Settled
--- laws
-pub mod RecordLaws
-pub mod SettledLaws
+pub mod Writable

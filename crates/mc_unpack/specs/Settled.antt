@@ -5,17 +5,17 @@ use Rattle.mc_payload.specs.declared.McSettings.{McSettings}
 use Rattle.mc_payload.specs.Payload.{Codes}
 use Rattle.mc_unpack.specs.declared.entry.McPayload.{McPayload}
 use Rattle.mc_places.specs.PlacesBy.{places_of}
-use Rattle.mc_codes.specs.Outcome.{outcomeOf}
-use Rattle.mc_payload.specs.Unpack.{allocationsFit, payloadOf, Loan, settingsOf}
-use Rattle.mc_unpack.specs.Answer.{checkedOf}
+use Rattle.mc_codes.specs.Outcome.{outcome_of}
+use Rattle.mc_payload.specs.Unpack.{allocations_fit, payload_of, Loan, settings_of}
+use Rattle.mc_unpack.specs.Answer.{checked_of}
 
 unfoldable pub settled_of : McSettings → List ℕ → ℕ → Outcome Codes
-settled_of s bytes bits = cond (allocationsFit s) (run (payloadOf s) bytes bits 0) (refused (plain 8))
+settled_of s bytes bits = cond (allocations_fit s) (run (payload_of s) bytes bits 0) (refused (plain 8))
 
 -- a payload as decided, under a loan and for buffers of these lengths
 pub record Decided (l : Loan) (bytes : List ℕ) (bits raw lfe : ℕ) (p : McPayload) : Type 0 where
-  pub outcome : outcomeOf p.codes ≡ checkedOf l bytes bits raw lfe
-  pub places : p.codes.cursor.err ≡ 0 → p.places ≡ places_of (settingsOf l)
+  pub outcome : outcome_of p.codes ≡ checked_of l bytes bits raw lfe
+  pub places : p.codes.cursor.err ≡ 0 → p.places ≡ places_of (settings_of l)
 
 -- short, Layer III commentary, reserved scalefactor, wrong loan, wrong allocation
 abbrev pub Numbered : ℕ → Type 0

@@ -1,11 +1,11 @@
 // The unpacking call: one function decides, on what is lent and not written, and only then are the buffers written.
 ghost use Rattle.std.specs.Prelude.{◌≡◌, ◌≤◌};
 ghost use Rattle.bits.specs.Syntax.{plain};
-ghost use Rattle.mc_error.specs.Error.{refusalOf};
-ghost use Rattle.mc_codes.specs.Outcome.{codes_of, outcomeOf};
+ghost use Rattle.mc_error.specs.Error.{refusal_of};
+ghost use Rattle.mc_codes.specs.Outcome.{codes_of, outcome_of};
 ghost use Rattle.mc_places.specs.PlacesBy.{places_of};
-ghost use Rattle.mc_payload.specs.Unpack.{loanBy};
-ghost use Rattle.mc_unpack.specs.Answer.{tables_of, noTables, values_of, after_of, unpackCall};
+ghost use Rattle.mc_payload.specs.Unpack.{loan_by};
+ghost use Rattle.mc_unpack.specs.Answer.{tables_of, no_tables, values_of, after_of, unpack_call};
 ghost use Rattle.mc_unpack.specs.Settled.{settled_of, Decided, Numbered};
 
 use cursor::Cursor;
@@ -54,7 +54,7 @@ impl Unpacked {
     }
 
     fn refused(e: McError) -> Unpacked
-        ensures { (result.answer ≡ UnpackAnswer.Refused e) × (values_of result ≡ noTables) }
+        ensures { (result.answer ≡ UnpackAnswer.Refused e) × (values_of result ≡ no_tables) }
     {
         Unpacked {
             answer: UnpackAnswer::Refused(e),
@@ -110,7 +110,7 @@ fn no_codes(number: u32) -> PayloadCodes
 // The allocations are tested, then the payload is read.
 pub fn read_mc_payload(bytes: &[u8], bits: usize, s: McSettings) -> McPayload
     requires { s.lfe_allocation ≤ 15 }
-    ensures { (outcomeOf result.codes ≡ settled_of s bytes.now bits) × (result.places ≡ places_of s) }
+    ensures { (outcome_of result.codes ≡ settled_of s bytes.now bits) × (result.places ≡ places_of s) }
 {
     let places = places_of(s);
     if !allocations_fit(s, &places.own) {
@@ -146,7 +146,7 @@ fn decide(
     raw_len: usize,
     lfe_len: usize,
 ) -> McPayload
-    ensures { Decided (loanBy reading rate base_channels header status lfe_allocation nb_steps.now base_nb_steps.now) bytes.now bits raw_len lfe_len result }
+    ensures { Decided (loan_by reading rate base_channels header status lfe_allocation nb_steps.now base_nb_steps.now) bytes.now bits raw_len lfe_len result }
 {
     if raw_len != 3456 {
         return McPayload::refused(6);
@@ -183,7 +183,7 @@ fn decide(
 // The refusal of a number.
 pub fn error_of(number: u32) -> McError
     requires { Numbered number }
-    ensures { refusalOf result ≡ plain number }
+    ensures { refusal_of result ≡ plain number }
 {
     match number {
         1 => McError::UnexpectedEnd,
@@ -209,7 +209,7 @@ pub fn unpack(
     raw: &mut [f64],
     lfe: &mut [f64],
 ) -> Unpacked
-    ensures { after_of result raw.new lfe.new ≡ unpackCall (loanBy reading rate base_channels header status lfe_allocation nb_steps.now base_nb_steps.now) bytes.now bits raw.old lfe.old }
+    ensures { after_of result raw.new lfe.new ≡ unpack_call (loan_by reading rate base_channels header status lfe_allocation nb_steps.now base_nb_steps.now) bytes.now bits raw.old lfe.old }
 {
     let payload = decide(
         bytes,

@@ -1,12 +1,12 @@
 // Delays and coefficients of the predictors from their codes (ISO/IEC 13818-3, 2.5.2.17 and 2.5.3.2.1.3): arrays of arrays, one level to a function.
 ghost use Rattle.std.specs.Prelude.{◌≡◌, ◌<◌};
 ghost use Rattle.fill.specs.Tab.{tab};
-ghost use Rattle.mc_values.specs.Values.{delaysIn, delaysFrom, coefBy, coefsIn, coefsFrom};
+ghost use Rattle.mc_values.specs.Values.{delays_in, delays_from, coef_by, coefs_in, coefs_from};
 
 // The delays of group g.
 fn group_delays(codes: &[u8; 192], g: usize) -> [u8; 6]
     requires { g < 8 }
-    ensures { result ≡ delaysIn codes.now g }
+    ensures { result ≡ delays_in codes.now g }
 {
     let mut row = [0u8; 6];
     for px in 0usize..6 {
@@ -17,7 +17,7 @@ fn group_delays(codes: &[u8; 192], g: usize) -> [u8; 6]
 
 // By group and predictor.
 pub fn delays(codes: &[u8; 192]) -> [[u8; 6]; 8]
-    ensures { result ≡ delaysFrom codes.now }
+    ensures { result ≡ delays_from codes.now }
 {
     let none = [0u8; 6];
     let mut table = [none; 8];
@@ -31,7 +31,7 @@ pub fn delays(codes: &[u8; 192]) -> [[u8; 6]; 8]
 // Coefficient k of predictor q, which has n; +0 past them.
 fn coef_by(codes: &[u8; 192], n: u8, q: usize, k: usize) -> f64
     requires { (q < 48) × (k < 3) }
-    ensures { result ≡ coefBy codes.now n q k }
+    ensures { result ≡ coef_by codes.now n q k }
 {
     if k < n as usize {
         requant::pred_coef(codes[4 * q + 1 + k])
@@ -42,7 +42,7 @@ fn coef_by(codes: &[u8; 192], n: u8, q: usize, k: usize) -> f64
 
 fn predictor_coefs(codes: &[u8; 192], n: u8, q: usize) -> [f64; 3]
     requires { q < 48 }
-    ensures { result ≡ tab (coefBy codes.now n q) 3 }
+    ensures { result ≡ tab (coef_by codes.now n q) 3 }
 {
     let mut row = [0.0f64; 3];
     for k in 0usize..3 {
@@ -54,7 +54,7 @@ fn predictor_coefs(codes: &[u8; 192], n: u8, q: usize) -> [f64; 3]
 // The coefficients of group g.
 fn group_coefs(predsi: &[u8; 56], codes: &[u8; 192], g: usize) -> [[f64; 3]; 6]
     requires { g < 8 }
-    ensures { result ≡ coefsIn predsi.now codes.now g }
+    ensures { result ≡ coefs_in predsi.now codes.now g }
 {
     let none = [0.0f64; 3];
     let mut rows = [none; 6];
@@ -67,7 +67,7 @@ fn group_coefs(predsi: &[u8; 56], codes: &[u8; 192], g: usize) -> [[f64; 3]; 6]
 
 // By group, predictor and coefficient.
 pub fn coefs(predsi: &[u8; 56], codes: &[u8; 192]) -> [[[f64; 3]; 6]; 8]
-    ensures { result ≡ coefsFrom predsi.now codes.now }
+    ensures { result ≡ coefs_from predsi.now codes.now }
 {
     let none = [0.0f64; 3];
     let rows = [none; 6];

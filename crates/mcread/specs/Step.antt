@@ -2,24 +2,24 @@
 use Rattle.std.specs.Prelude.{cond, List, ℕ, eqb, ltb, replicate, set}
 use Rattle.bits.specs.Syntax.{Outcome, accepted, refused}
 use Rattle.floats.specs.Binary64.{zero64}
-use Rattle.mc_state.specs.Answer.{buffersFrom}
-use Rattle.mc_state.specs.Carry.{carriedOver}
+use Rattle.mc_state.specs.Answer.{buffers_from}
+use Rattle.mc_state.specs.Carry.{carried_over}
 use Rattle.mc_state.specs.Frame.{After, frame_of}
 use Rattle.mc_state.specs.declared.McDecodeState.{McDecodeState}
 use Rattle.mcread.specs.declared.input.Step.{Step}
 use Rattle.frame_file.specs.declared.numbers.Numbers.{Numbers}
-use Rattle.frame_body.specs.Lent.{lentIn}
+use Rattle.frame_body.specs.Lent.{lent_in}
 
 -- a refused carrying leaves the state
-unfoldable pub beforeFrame : Numbers → McDecodeState → McDecodeState
-beforeFrame n state = cond (eqb n.carried 1) (carriedOver state).state state
+unfoldable pub before_frame : Numbers → McDecodeState → McDecodeState
+before_frame n state = cond (eqb n.carried 1) (carried_over state).state state
 
-unfoldable pub afterFrame : Numbers → List ℕ → McDecodeState → After
-afterFrame n body state = frame_of (lentIn n body) (buffersFrom (replicate 3456 zero64) (replicate 3456 zero64) (replicate 5760 zero64) (replicate 12 zero64)) (beforeFrame n state)
+unfoldable pub after_frame : Numbers → List ℕ → McDecodeState → After
+after_frame n body state = frame_of (lent_in n body) (buffers_from (replicate 3456 zero64) (replicate 3456 zero64) (replicate 5760 zero64) (replicate 12 zero64)) (before_frame n state)
 
 -- 0 for an accepted frame, 1 for a refused one
 abbrev pub kind_of : Outcome ℕ → ℕ
-kind_of (accepted head_bits payloadBits) = 0
+kind_of (accepted head_bits payload_bits) = 0
 kind_of (refused r) = 1
 
 -- the state that the next frame follows on, what became of this one, and its desk
@@ -27,5 +27,5 @@ abbrev pub step_of : Numbers → After → Step
 step_of n a = record { state = a.state; kind = kind_of a.answer; desk = n.desk }
 
 -- the desks that frames name, with one more; above 7 there is none
-abbrev pub markedOf : List ℕ → ℕ → List ℕ
-markedOf desks desk = cond (ltb desk 8) (set desks desk 1) desks
+abbrev pub marked_of : List ℕ → ℕ → List ℕ
+marked_of desks desk = cond (ltb desk 8) (set desks desk 1) desks

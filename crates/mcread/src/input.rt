@@ -1,8 +1,8 @@
 // Reading standard input, frame after frame. No contract can say what is read.
 ghost use Rattle.std.specs.Prelude.{◌≡◌, ◌≤◌, IfOk, length};
-ghost use Rattle.frame_file.specs.File.{faultOf};
+ghost use Rattle.frame_file.specs.File.{fault_of};
 ghost use Rattle.frame_body.specs.Lent.{Whole};
-ghost use Rattle.mcread.specs.Step.{beforeFrame, afterFrame, step_of, markedOf};
+ghost use Rattle.mcread.specs.Step.{before_frame, after_frame, step_of, marked_of};
 
 use crate::out::Out;
 use crate::report;
@@ -86,7 +86,7 @@ fn before_frame(
     number: u64,
     n: Numbers,
 ) -> McDecodeState
-    ensures { result ≡ beforeFrame n state }
+    ensures { result ≡ before_frame n state }
 {
     if n.carried != 1 {
         return state;
@@ -107,7 +107,7 @@ fn decode_frame(
     body: &[u8],
 ) -> Step
     requires { Whole n body.now }
-    ensures { result ≡ step_of n (afterFrame n body.now state) }
+    ensures { result ≡ step_of n (after_frame n body.now state) }
 {
     let mut raw = [0.0f64; 3456];
     let mut work = [0.0f64; 3456];
@@ -148,7 +148,7 @@ fn read_body(
     number: u64,
     n: Numbers,
 ) -> io::Result<Step>
-    requires { faultOf n ≡ 0 }
+    requires { fault_of n ≡ 0 }
 {
     let mut space = [0u8; 53888];
     let size = body_bytes(n);
@@ -195,7 +195,7 @@ fn read_frame(
 
 // One desk more that frames name; above 7 there is none.
 fn marked(desks: [u8; 8], desk: u32) -> [u8; 8]
-    ensures { result ≡ markedOf desks desk }
+    ensures { result ≡ marked_of desks desk }
 {
     let mut next = desks;
     let at = desk as usize;

@@ -2,4 +2,3 @@
 pub mod Parts
 pub mod Payload
 pub mod PayloadCode
-pub mod PayloadLaws

@@ -10,8 +10,8 @@ abbrev pub flag : Bool → ℕ
 flag b = cond b 1 0
 
 -- mc_header(), the check word's two bytes, and the three flags that open mc_composite_status_info()
-abbrev pub firstBytes : McHeader → ℕ → McStatus → List ℕ
-firstBytes h word s =
+abbrev pub first_bytes : McHeader → ℕ → McStatus → List ℕ
+first_bytes h word s =
     flag h.ext_bit_stream_present
     ∷ h.n_ad_bytes
     ∷ h.centre
@@ -32,34 +32,34 @@ firstBytes h word s =
     ∷ []
 
 -- byte k of 17 first ones, 12 of tc_allocation, dyn_cross_lr, 24 of dyn_cross, 56 of mc_prediction
-abbrev pub byteOf : List ℕ → List ℕ → ℕ → List ℕ → List ℕ → ℕ → ℕ
-byteOf first tc lr cross prediction k =
+abbrev pub byte_of : List ℕ → List ℕ → ℕ → List ℕ → List ℕ → ℕ → ℕ
+byte_of first tc lr cross prediction k =
     cond (ltb k 17) (get_or first k 0)
     (cond (ltb k 29) (get_or tc (k - 17) 0)
     (cond (ltb k 30) lr
     (cond (ltb k 54) (get_or cross (k - 30) 0)
     (get_or prediction (k - 54) 0))))
 
-abbrev pub headByte : McHeader → ℕ → McStatus → ℕ → ℕ
-headByte h word s = byteOf (firstBytes h word s) s.tc_allocation (flag s.dyn_cross_lr) s.dyn_cross s.mc_prediction
+abbrev pub head_byte : McHeader → ℕ → McStatus → ℕ → ℕ
+head_byte h word s = byte_of (first_bytes h word s) s.tc_allocation (flag s.dyn_cross_lr) s.dyn_cross s.mc_prediction
 
 abbrev pub Head : Type 0
 Head = Outcome (McHeader × (ℕ × McStatus))
 
 -- room for other than 110 bytes is a wrong loan, refusal 6
-unfoldable pub headFor : ℕ → List ℕ → ℕ → ℕ → ℕ → Head
-headFor reading bytes bits baseChannels room = cond (eqb room 110) (head_of reading bytes bits baseChannels) (refused (plain 6))
+unfoldable pub head_for : ℕ → List ℕ → ℕ → ℕ → ℕ → Head
+head_for reading bytes bits base_channels room = cond (eqb room 110) (head_of reading bytes bits base_channels) (refused (plain 6))
 
 -- the low 8 bits are the refusal's number, the next 24 the group, the rest the code
-abbrev pub packedRefusal : Refusal → ℕ
-packedRefusal x = x.number + x.group % 16777216 * 256 + x.code * 4294967296
+abbrev pub packed_refusal : Refusal → ℕ
+packed_refusal x = x.number + x.group % 16777216 * 256 + x.code * 4294967296
 
 -- a refusal; or number 0 with the used bits in the place of the group
-abbrev pub packedHead : Head → ℕ
-packedHead (accepted values used) = used % 16777216 * 256
-packedHead (refused x) = packedRefusal x
+abbrev pub packed_head : Head → ℕ
+packed_head (accepted values used) = used % 16777216 * 256
+packed_head (refused x) = packed_refusal x
 
 -- what the lent bytes hold after the call: after a refusal what they held before
-abbrev pub bytesAfter : Head → List ℕ → List ℕ
-bytesAfter (accepted values used) old = tab (headByte values.0 values.1.0 values.1.1) 110
-bytesAfter (refused x) old = old
+abbrev pub bytes_after : Head → List ℕ → List ℕ
+bytes_after (accepted values used) old = tab (head_byte values.0 values.1.0 values.1.1) 110
+bytes_after (refused x) old = old

@@ -2,26 +2,26 @@
 use Rattle.std.specs.Prelude.{List, ℕ, Float}
 use Rattle.bits.specs.Syntax.{Outcome, accepted, refused}
 use Rattle.mc_unpack.specs.Answer.{Tables}
-use Rattle.mc_values.specs.Values.{delaysFrom, coefsFrom}
-use Rattle.part_tables.specs.Parts.{packedRefusal}
-use Rattle.part_tables.specs.Payload.{packedUsed, entries, flatDelays, flatCoefs}
+use Rattle.mc_values.specs.Values.{delays_from, coefs_from}
+use Rattle.part_tables.specs.Parts.{packed_refusal}
+use Rattle.part_tables.specs.Payload.{packed_used, entries, flat_delays, flat_coefs}
 
-abbrev pub scfsiAfter : Outcome Tables → List ℕ → List ℕ
-scfsiAfter (accepted t used) old = entries 96 t.0
-scfsiAfter (refused x) old = old
+abbrev pub scfsi_after : Outcome Tables → List ℕ → List ℕ
+scfsi_after (accepted t used) old = entries 96 t.0
+scfsi_after (refused x) old = old
 
-abbrev pub delaysAfter : Outcome Tables → List ℕ → List ℕ
-delaysAfter (accepted t used) old = flatDelays (delaysFrom t.1.0)
-delaysAfter (refused x) old = old
+abbrev pub delays_after : Outcome Tables → List ℕ → List ℕ
+delays_after (accepted t used) old = flat_delays (delays_from t.1.0)
+delays_after (refused x) old = old
 
-abbrev pub coefsAfter : List ℕ → Outcome Tables → List Float → List Float
-coefsAfter predsi (accepted t used) old = flatCoefs (coefsFrom predsi t.1.0)
-coefsAfter predsi (refused x) old = old
+abbrev pub coefs_after : List ℕ → Outcome Tables → List Float → List Float
+coefs_after predsi (accepted t used) old = flat_coefs (coefs_from predsi t.1.0)
+coefs_after predsi (refused x) old = old
 
-abbrev pub scalefactorsAfter : Outcome Tables → List ℕ → List ℕ
-scalefactorsAfter (accepted t used) old = entries 288 t.1.1.1
-scalefactorsAfter (refused x) old = old
+abbrev pub scalefactors_after : Outcome Tables → List ℕ → List ℕ
+scalefactors_after (accepted t used) old = entries 288 t.1.1.1
+scalefactors_after (refused x) old = old
 
-abbrev pub packedTables : Outcome Tables → ℕ
-packedTables (accepted t used) = packedUsed used t.1.1.0
-packedTables (refused x) = packedRefusal x
+abbrev pub packed_tables : Outcome Tables → ℕ
+packed_tables (accepted t used) = packed_used used t.1.1.0
+packed_tables (refused x) = packed_refusal x

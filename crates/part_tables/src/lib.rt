@@ -2,8 +2,8 @@
 #![tactic(auto)]
 
 ghost use Rattle.std.specs.Prelude.{◌≡◌};
-ghost use Rattle.mc_error.specs.Error.{refusalOf};
-ghost use Rattle.part_tables.specs.Parts.{packedRefusal};
+ghost use Rattle.mc_error.specs.Error.{refusal_of};
+ghost use Rattle.part_tables.specs.Parts.{packed_refusal};
 
 use mc_error::McError;
 
@@ -13,7 +13,7 @@ pub use pack::{pack_tables, write_tables};
 
 // A refusal as one number.
 pub fn pack_refusal(e: McError) -> u64
-    ensures { result ≡ packedRefusal (refusalOf e) }
+    ensures { result ≡ packed_refusal (refusal_of e) }
 {
     e.number() as u64 + (e.group() % 16777216) as u64 * 256 + e.code() as u64 * 4294967296
 }

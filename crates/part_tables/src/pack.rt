@@ -1,9 +1,9 @@
 // The tables of a record in lent buffers.
 ghost use Rattle.std.specs.Prelude.{◌≡◌, length};
 ghost use Rattle.mc_unpack.specs.Answer.{answered, values_of};
-ghost use Rattle.mc_values.specs.Values.{delaysFrom, coefsFrom};
-ghost use Rattle.part_tables.specs.Payload.{entries, flatDelays, flatCoefs};
-ghost use Rattle.part_tables.specs.PayloadCode.{scfsiAfter, delaysAfter, coefsAfter, scalefactorsAfter, packedTables};
+ghost use Rattle.mc_values.specs.Values.{delays_from, coefs_from};
+ghost use Rattle.part_tables.specs.Payload.{entries, flat_delays, flat_coefs};
+ghost use Rattle.part_tables.specs.PayloadCode.{scfsi_after, delays_after, coefs_after, scalefactors_after, packed_tables};
 
 use crate::pack_refusal;
 use mc_unpack::{UnpackAnswer, Unpacked};
@@ -29,7 +29,7 @@ fn write_scalefactors(table: &[u8; 288], out: &mut [u8])
 // The delays of all predictors, by group.
 fn write_delays(codes: &[u8; 192], out: &mut [u8])
     requires { length out.old ≡ 48 }
-    ensures { out.new ≡ flatDelays (delaysFrom codes.now) }
+    ensures { out.new ≡ flat_delays (delays_from codes.now) }
 {
     let delays = mc_values::delays(codes);
     for k in 0usize..48 {
@@ -40,7 +40,7 @@ fn write_delays(codes: &[u8; 192], out: &mut [u8])
 // Their coefficients.
 fn write_coefs(predsi: &[u8; 56], codes: &[u8; 192], out: &mut [f64])
     requires { length out.old ≡ 144 }
-    ensures { out.new ≡ flatCoefs (coefsFrom predsi.now codes.now) }
+    ensures { out.new ≡ flat_coefs (coefs_from predsi.now codes.now) }
 {
     let coefs = mc_values::coefs(predsi, codes);
     for k in 0usize..144 {
@@ -58,7 +58,7 @@ pub fn write_tables(
     scalefactors: &mut [u8],
 )
     requires { (length scfsi.old ≡ 96) × (length delays.old ≡ 48) × (length coefs.old ≡ 144) × (length scalefactors.old ≡ 288) }
-    ensures { (scfsi.new ≡ scfsiAfter (answered u.answer (values_of u)) scfsi.old) × (delays.new ≡ delaysAfter (answered u.answer (values_of u)) delays.old) × (coefs.new ≡ coefsAfter predsi.now (answered u.answer (values_of u)) coefs.old) × (scalefactors.new ≡ scalefactorsAfter (answered u.answer (values_of u)) scalefactors.old) }
+    ensures { (scfsi.new ≡ scfsi_after (answered u.answer (values_of u)) scfsi.old) × (delays.new ≡ delays_after (answered u.answer (values_of u)) delays.old) × (coefs.new ≡ coefs_after predsi.now (answered u.answer (values_of u)) coefs.old) × (scalefactors.new ≡ scalefactors_after (answered u.answer (values_of u)) scalefactors.old) }
 {
     let answer = u.answer;
     match answer {
@@ -74,7 +74,7 @@ pub fn write_tables(
 
 // The answer as one number.
 pub fn pack_tables(u: Unpacked) -> u64
-    ensures { result ≡ packedTables (answered u.answer (values_of u)) }
+    ensures { result ≡ packed_tables (answered u.answer (values_of u)) }
 {
     let answer = u.answer;
     match answer {

@@ -3,8 +3,8 @@
 
 ghost use Rattle.std.specs.Prelude.{◌≡◌, ◌<◌, length};
 ghost use Rattle.fill.specs.Tab.{tab};
-ghost use Rattle.mc_head.specs.Answer.{outcomeOf};
-ghost use Rattle.part_tables.specs.Parts.{firstBytes, byteOf, headByte, headFor, packedHead, bytesAfter};
+ghost use Rattle.mc_head.specs.Answer.{outcome_of};
+ghost use Rattle.part_tables.specs.Parts.{first_bytes, byte_of, head_byte, head_for, packed_head, bytes_after};
 
 use mc_config::McHeader;
 use mc_fields::McStatus;
@@ -18,7 +18,7 @@ pub const HEAD_BYTES: usize = 110;
 
 // The fields before tc_allocation.
 fn first_bytes(header: McHeader, word: u16, status: McStatus) -> [u8; 17]
-    ensures { result ≡ firstBytes header word status }
+    ensures { result ≡ first_bytes header word status }
 {
     [
         header.ext_bit_stream_present as u8,
@@ -51,7 +51,7 @@ fn byte_of(
     k: usize,
 ) -> u8
     requires { k < 110 }
-    ensures { result ≡ byteOf first.now tc.now lr cross.now prediction.now k }
+    ensures { result ≡ byte_of first.now tc.now lr cross.now prediction.now k }
 {
     if k < 17 {
         return first[k];
@@ -71,7 +71,7 @@ fn byte_of(
 // Writes a head's fields.
 fn write_fields(header: McHeader, word: u16, status: McStatus, out: &mut [u8])
     requires { length out.old ≡ 110 }
-    ensures { out.new ≡ tab (headByte header word status) 110 }
+    ensures { out.new ≡ tab (head_byte header word status) 110 }
 {
     let first = first_bytes(header, word, status);
     let tc = status.tc_allocation;
@@ -86,7 +86,7 @@ fn write_fields(header: McHeader, word: u16, status: McStatus, out: &mut [u8])
 // Writes the fields of an accepted head, and nothing of a refused one.
 fn write_head(head: McHead, out: &mut [u8])
     requires { length out.old ≡ 110 }
-    ensures { out.new ≡ bytesAfter (outcomeOf head) out.old }
+    ensures { out.new ≡ bytes_after (outcome_of head) out.old }
 {
     let answer = head.answer;
     match answer {
@@ -101,7 +101,7 @@ fn write_head(head: McHead, out: &mut [u8])
 
 // The answer as one number.
 fn pack(head: McHead) -> u64
-    ensures { result ≡ packedHead (outcomeOf head) }
+    ensures { result ≡ packed_head (outcome_of head) }
 {
     let answer = head.answer;
     match answer {
@@ -119,7 +119,7 @@ pub extern "C" fn mc_part_head(
     base_channels: u8,
     out: &mut [u8],
 ) -> u64
-    ensures { (result ≡ packedHead (headFor reading bytes.now bits base_channels (length out.old))) × (out.new ≡ bytesAfter (headFor reading bytes.now bits base_channels (length out.old)) out.old) }
+    ensures { (result ≡ packed_head (head_for reading bytes.now bits base_channels (length out.old))) × (out.new ≡ bytes_after (head_for reading bytes.now bits base_channels (length out.old)) out.old) }
 {
     if out.len() != HEAD_BYTES {
         return 6;

@@ -1,7 +1,7 @@
 // Unpacking a payload under its head, for other languages. The function takes any input.
 ghost use Rattle.std.specs.Prelude.{◌≡◌, length};
-ghost use Rattle.mc_payload.specs.Unpack.{loanBy, settingsOf, unpackOf};
-ghost use Rattle.part_tables.specs.Payload.{lent_of, buffersFrom, afterBy, roomFits, lent_by, leftBy, part_of};
+ghost use Rattle.mc_payload.specs.Unpack.{loan_by, settings_of, unpack_of};
+ghost use Rattle.part_tables.specs.Payload.{lent_of, buffers_from, after_by, room_fits, lent_by, left_by, part_of};
 
 use mc_config::McHeader;
 use mc_error::McError;
@@ -19,7 +19,7 @@ fn room_fits(
     raw: usize,
     lfe: usize,
 ) -> bool
-    ensures { result ≡ roomFits scfsi delays coefs scalefactors raw lfe }
+    ensures { result ≡ room_fits scfsi delays coefs scalefactors raw lfe }
 {
     (scfsi == 96)
         & ((delays == 48)
@@ -81,7 +81,7 @@ fn unpack_under(
     lfe: &mut [f64],
 ) -> u64
     requires { (length scfsi.old ≡ 96) × (length delays.old ≡ 48) × (length coefs.old ≡ 144) × (length scalefactors.old ≡ 288) × (length raw.old ≡ 3456) × (length lfe.old ≡ 12) }
-    ensures { afterBy result (buffersFrom scfsi.new delays.new coefs.new scalefactors.new raw.new lfe.new) ≡ leftBy (settingsOf (loanBy reading rate base_channels header status lfe_allocation nb_steps.now base_nb_steps.now)) (buffersFrom scfsi.old delays.old coefs.old scalefactors.old raw.old lfe.old) (unpackOf (loanBy reading rate base_channels header status lfe_allocation nb_steps.now base_nb_steps.now) payload.now payload_bits) }
+    ensures { after_by result (buffers_from scfsi.new delays.new coefs.new scalefactors.new raw.new lfe.new) ≡ left_by (settings_of (loan_by reading rate base_channels header status lfe_allocation nb_steps.now base_nb_steps.now)) (buffers_from scfsi.old delays.old coefs.old scalefactors.old raw.old lfe.old) (unpack_of (loan_by reading rate base_channels header status lfe_allocation nb_steps.now base_nb_steps.now) payload.now payload_bits) }
 {
     let predsi = status.mc_prediction;
     let u = unpack(
@@ -122,7 +122,7 @@ pub extern "C" fn mc_part_unpack(
     raw: &mut [f64],
     lfe: &mut [f64],
 ) -> u64
-    ensures { afterBy result (buffersFrom scfsi.new delays.new coefs.new scalefactors.new raw.new lfe.new) ≡ part_of (lent_of head.now head_bits payload.now payload_bits reading rate base_channels lfe_allocation nb_steps.now base_nb_steps.now) (buffersFrom scfsi.old delays.old coefs.old scalefactors.old raw.old lfe.old) }
+    ensures { after_by result (buffers_from scfsi.new delays.new coefs.new scalefactors.new raw.new lfe.new) ≡ part_of (lent_of head.now head_bits payload.now payload_bits reading rate base_channels lfe_allocation nb_steps.now base_nb_steps.now) (buffers_from scfsi.old delays.old coefs.old scalefactors.old raw.old lfe.old) }
 {
     if !lent_fits(
         head,

@@ -1,9 +1,9 @@
 // A frame of the list, rebuilt and called.
 ghost use Rattle.std.specs.Prelude.{◌≡◌, ◌+◌, length};
-ghost use Rattle.mc_base.specs.Base.{baseFrom};
-ghost use Rattle.mc_state.specs.Answer.{buffersFrom, after_of};
+ghost use Rattle.mc_base.specs.Base.{base_from};
+ghost use Rattle.mc_state.specs.Answer.{buffers_from, after_of};
 ghost use Rattle.mc_state.specs.Frame.{frame_of};
-ghost use Rattle.replay_list.specs.Opening.{secondLent, lentValues, stepsFrom, start_of, lentWith, lentLong, lentIn};
+ghost use Rattle.replay_list.specs.Opening.{second_lent, lent_values, steps_from, start_of, lent_with, lent_long, lent_in};
 
 use encoding::number_at;
 use mc_decode::frame_by_value;
@@ -20,12 +20,12 @@ fn rebuild<'a, 'b, 'c, 'd, 'e, 'f>(
     base_steps: &'e mut [u32],
     steps: &'f mut [u32],
 )
-    ensures raw_left_after { raw_left.new ≡ lentValues opening.now 0 0 (length raw_left.old) }
-    ensures raw_right_after { raw_right.new ≡ lentValues opening.now 1152 1152 (length raw_right.old) }
-    ensures scaled_left_after { scaled_left.new ≡ lentValues opening.now (1152 + secondLent opening.now 1152) 2304 (length scaled_left.old) }
-    ensures scaled_right_after { scaled_right.new ≡ lentValues opening.now (2304 + secondLent opening.now 1152) 3456 (length scaled_right.old) }
-    ensures base_steps_after { base_steps.new ≡ stepsFrom opening.now 96 (length base_steps.old) }
-    ensures steps_after { steps.new ≡ stepsFrom opening.now 160 (length steps.old) }
+    ensures raw_left_after { raw_left.new ≡ lent_values opening.now 0 0 (length raw_left.old) }
+    ensures raw_right_after { raw_right.new ≡ lent_values opening.now 1152 1152 (length raw_right.old) }
+    ensures scaled_left_after { scaled_left.new ≡ lent_values opening.now (1152 + second_lent opening.now 1152) 2304 (length scaled_left.old) }
+    ensures scaled_right_after { scaled_right.new ≡ lent_values opening.now (2304 + second_lent opening.now 1152) 3456 (length scaled_right.old) }
+    ensures base_steps_after { base_steps.new ≡ steps_from opening.now 96 (length base_steps.old) }
+    ensures steps_after { steps.new ≡ steps_from opening.now 160 (length steps.old) }
 {
     let second = second_lent(opening, 1152);
     lend_values(raw_left, opening, 0, 0);
@@ -53,7 +53,7 @@ fn call<'a>(
     output: &mut [f64],
     lfe: &mut [f64],
 ) -> Framed
-    ensures { after_of result (buffersFrom raw.new work.new output.new lfe.new) ≡ frame_of (lentWith opening.now head.now payload.now (baseFrom raw_left.now raw_right.now scaled_left.now scaled_right.now) base_steps.now steps.now) (buffersFrom raw.old work.old output.old lfe.old) (start_of opening.now state) }
+    ensures { after_of result (buffers_from raw.new work.new output.new lfe.new) ≡ frame_of (lent_with opening.now head.now payload.now (base_from raw_left.now raw_right.now scaled_left.now scaled_right.now) base_steps.now steps.now) (buffers_from raw.old work.old output.old lfe.old) (start_of opening.now state) }
 {
     let before = start(state, opening);
     let head_bits = number_at(opening, 4, 4) as usize;
@@ -104,7 +104,7 @@ fn rebuilt_frame<'a, 'b, 'c, 'd, 'e, 'f>(
     output: &mut [f64],
     lfe: &mut [f64],
 ) -> Framed
-    ensures { after_of result (buffersFrom raw.new work.new output.new lfe.new) ≡ frame_of (lentLong opening.now head.now payload.now (length raw_left.old) (length raw_right.old) (length scaled_left.old) (length scaled_right.old) (length base_steps.old) (length steps.old)) (buffersFrom raw.old work.old output.old lfe.old) (start_of opening.now state) }
+    ensures { after_of result (buffers_from raw.new work.new output.new lfe.new) ≡ frame_of (lent_long opening.now head.now payload.now (length raw_left.old) (length raw_right.old) (length scaled_left.old) (length scaled_right.old) (length base_steps.old) (length steps.old)) (buffers_from raw.old work.old output.old lfe.old) (start_of opening.now state) }
 {
     rebuild(
         opening,
@@ -163,7 +163,7 @@ pub fn replay_frame(
     output: &mut [f64],
     lfe: &mut [f64],
 ) -> Framed
-    ensures { after_of result (buffersFrom raw.new work.new output.new lfe.new) ≡ frame_of (lentIn opening.now head.now payload.now) (buffersFrom raw.old work.old output.old lfe.old) (start_of opening.now state) }
+    ensures { after_of result (buffers_from raw.new work.new output.new lfe.new) ≡ frame_of (lent_in opening.now head.now payload.now) (buffers_from raw.old work.old output.old lfe.old) (start_of opening.now state) }
 {
     let mut raw_left = values();
     let mut raw_right = values();

@@ -1,6 +1,3 @@
 pub mod Values
 pub mod Opening
 pub mod Outcome
-pub mod ValuesLaws
-pub mod OpeningLaws
-pub mod OutcomeLaws

@@ -1,35 +1,35 @@
 -- What is compared of a frame: six numbers, and the counts. Definitions only.
 use Rattle.std.specs.Prelude.{ℕ, zero, suc, ◌+◌, ◌%◌, Bool, cond, not, List, ◌==◌, nat_le, slice_index, slice_set, Float}
-use Rattle.encoding.specs.Encoding.{number_at, hashNumber, hashFloats}
+use Rattle.encoding.specs.Encoding.{number_at, hash_number, hash_floats}
 use Rattle.mc_state.specs.declared.McAnswer.{McAnswer}
 use Rattle.mc_state.specs.declared.McDecodeState.{McDecodeState}
-use Rattle.mc_state.specs.Answer.{packed, outcomeOf}
+use Rattle.mc_state.specs.Answer.{packed, outcome_of}
 use Rattle.replay_list.specs.declared.outcome.Outcome.{Outcome}
 use Rattle.replay_list.specs.declared.outcome.Differences.{Differences}
 use Rattle.replay_list.specs.declared.tally.Tally.{Tally}
 
 -- FNV-1a begins with this number
-abbrev pub hashOf : List Float → ℕ
-hashOf xs = hashFloats 14695981039346656037 xs
+abbrev pub hash_of : List Float → ℕ
+hash_of xs = hash_floats 14695981039346656037 xs
 
 -- the hash h, the first n numbers more
-unfoldable pub hashNumbers : ℕ → List ℕ → ℕ → ℕ
-hashNumbers h xs zero = h
-hashNumbers h xs (suc n) = hashNumber (hashNumbers h xs n) (slice_index xs n)
+unfoldable pub hash_numbers : ℕ → List ℕ → ℕ → ℕ
+hash_numbers h xs zero = h
+hash_numbers h xs (suc n) = hash_number (hash_numbers h xs n) (slice_index xs n)
 
-unfoldable pub stateHash : McDecodeState → ℕ
-stateHash s = hashNumbers (hashNumber (hashNumber (hashOf s.pred_hist) s.layout_len) s.layout) s.accepted 8
+unfoldable pub state_hash : McDecodeState → ℕ
+state_hash s = hash_numbers (hash_number (hash_number (hash_of s.pred_hist) s.layout_len) s.layout) s.accepted 8
 
 -- what the frame call reached: its packed answer, and the hashes of the four buffers and of the state
-abbrev pub reachedOf : McAnswer → McDecodeState → List Float → List Float → List Float → List Float → Outcome
-reachedOf answer s raw work output lfe =
+abbrev pub reached_of : McAnswer → McDecodeState → List Float → List Float → List Float → List Float → Outcome
+reached_of answer s raw work output lfe =
     record {
-      answer = packed (outcomeOf answer);
-      raw = hashOf raw;
-      work = hashOf work;
-      output = hashOf output;
-      lfe = hashOf lfe;
-      state = stateHash s;
+      answer = packed (outcome_of answer);
+      raw = hash_of raw;
+      work = hash_of work;
+      output = hash_of output;
+      lfe = hash_of lfe;
+      state = state_hash s;
     }
 
 -- what the list has
@@ -44,8 +44,8 @@ listed_of opening =
       state = number_at opening 80 8;
     }
 
-abbrev pub differencesOf : Outcome → Outcome → Differences
-differencesOf a b =
+abbrev pub differences_of : Outcome → Outcome → Differences
+differences_of a b =
     record {
       answer = not (a.answer == b.answer);
       raw = not (a.raw == b.raw);
@@ -60,14 +60,14 @@ abbrev pub more : ℕ → ℕ → ℕ
 more n k = (n + k) % 18446744073709551616
 
 -- the counts by answer: the place 0 for acceptance, the others by the refusal's number
-abbrev pub answeredOf : List ℕ → ℕ → List ℕ
-answeredOf answers n = cond (nat_le 15 n) answers (slice_set answers n (more (slice_index answers n) 1))
+abbrev pub answered_of : List ℕ → ℕ → List ℕ
+answered_of answers n = cond (nat_le 15 n) answers (slice_set answers n (more (slice_index answers n) 1))
 
-abbrev pub talliedOf : Tally → ℕ → ℕ → Bool → Tally
-talliedOf t answer values different =
+abbrev pub tallied_of : Tally → ℕ → ℕ → Bool → Tally
+tallied_of t answer values different =
     record {
       frames = more t.frames 1;
-      answers = answeredOf t.answers (answer % 256);
+      answers = answered_of t.answers (answer % 256);
       values = more t.values values;
       different = more t.different (cond different 1 0);
     }

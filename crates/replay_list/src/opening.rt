@@ -1,7 +1,7 @@
 // A frame's opening: what is lent to the frame call, rebuilt from it.
 ghost use Rattle.std.specs.Prelude.{◌≡◌, ◌+◌, ◌≤◌, min, length, slice_index};
 ghost use Rattle.encoding.specs.Encoding.{number_at};
-ghost use Rattle.replay_list.specs.Opening.{number32At, secondLent, stepsOf, stepsFrom, lentValues, start_of};
+ghost use Rattle.replay_list.specs.Opening.{number32_at, second_lent, steps_of, steps_from, lent_values, start_of};
 
 use crate::values::{fill_values, put_wild};
 use encoding::number_at;
@@ -14,7 +14,7 @@ pub fn byte_at(bytes: &[u8], at: usize) -> u8
 }
 
 pub fn number32_at(bytes: &[u8], at: usize) -> u32
-    ensures { result ≡ number32At bytes.now at }
+    ensures { result ≡ number32_at bytes.now at }
 {
     (number_at(bytes, at, 4) % 4294967296) as u32
 }
@@ -29,7 +29,7 @@ pub fn lent_bytes(opening: &[u8], at: usize, room: usize) -> usize
 
 // How many of n elements of a second base channel are lent: all or none.
 pub fn second_lent(opening: &[u8], n: usize) -> usize
-    ensures value { result ≡ secondLent opening.now n }
+    ensures value { result ≡ second_lent opening.now n }
     ensures upper_bound { result ≤ n }
 {
     if byte_at(opening, 17) == 1 { n } else { 0 }
@@ -41,7 +41,7 @@ const STEPS: [u32; 18] = [
 
 // The step count of a class.
 pub fn steps_of(class: u8) -> u32
-    ensures { result ≡ stepsOf class }
+    ensures { result ≡ steps_of class }
 {
     let k = class as usize;
     if k < 18 { STEPS[k] } else { 4 }
@@ -50,7 +50,7 @@ pub fn steps_of(class: u8) -> u32
 // Fills dst with the step counts whose classes stand in the opening from `first` on.
 pub fn fill_steps(dst: &mut [u32], opening: &[u8], first: usize)
     requires { first ≤ 256 }
-    ensures { dst.new ≡ stepsFrom opening.now first (length dst.old) }
+    ensures { dst.new ≡ steps_from opening.now first (length dst.old) }
 {
     let mut k = 0usize;
     while k < dst.len() {
@@ -61,7 +61,7 @@ pub fn fill_steps(dst: &mut [u32], opening: &[u8], first: usize)
 
 // Fills dst with the values that start at the place `first`.
 pub fn lend_values(dst: &mut [f64], opening: &[u8], before: usize, first: usize)
-    ensures { dst.new ≡ lentValues opening.now before first (length dst.old) }
+    ensures { dst.new ≡ lent_values opening.now before first (length dst.old) }
 {
     let seed = number_at(opening, 32, 8);
     let kind = byte_at(opening, 21);

@@ -1,7 +1,7 @@
 // What a frame answers and leaves behind, as six numbers, and how two such outcomes differ.
 ghost use Rattle.std.specs.Prelude.{◌≡◌, ◌+◌, length};
-ghost use Rattle.mc_state.specs.Answer.{packed, outcomeOf};
-ghost use Rattle.replay_list.specs.Outcome.{hashOf, hashNumbers, stateHash, listed_of, reachedOf, differencesOf};
+ghost use Rattle.mc_state.specs.Answer.{packed, outcome_of};
+ghost use Rattle.replay_list.specs.Outcome.{hash_of, hash_numbers, state_hash, listed_of, reached_of, differences_of};
 
 use encoding::number_at;
 use hash::{hash_floats, hash_number};
@@ -22,7 +22,7 @@ pub struct Outcome {
 
 // The answer as one number.
 fn pack(answer: McAnswer) -> u64
-    ensures { result ≡ packed (outcomeOf answer) }
+    ensures { result ≡ packed (outcome_of answer) }
 {
     match answer {
         McAnswer::Accepted {
@@ -38,14 +38,14 @@ fn pack(answer: McAnswer) -> u64
 }
 
 fn hash(xs: &[f64]) -> u64
-    ensures { result ≡ hashOf xs.now }
+    ensures { result ≡ hash_of xs.now }
 {
     hash_floats(EMPTY_HASH, xs)
 }
 
 // The hash h, eight tallies more.
 fn hash_tallies(h: u64, tallies: [u32; 8]) -> u64
-    ensures { result ≡ hashNumbers h tallies 8 }
+    ensures { result ≡ hash_numbers h tallies 8 }
 {
     let mut hash = h;
     for k in 0usize..8 {
@@ -56,7 +56,7 @@ fn hash_tallies(h: u64, tallies: [u32; 8]) -> u64
 
 // The hash of the history, the layout count, the layout and the tallies.
 fn hash_state(state: McDecodeState) -> u64
-    ensures { result ≡ stateHash state }
+    ensures { result ≡ state_hash state }
 {
     let history = state.pred_hist;
     let tallies = state.accepted;
@@ -82,7 +82,7 @@ pub fn reached(
     output: &[f64],
     lfe: &[f64],
 ) -> Outcome
-    ensures { result ≡ reachedOf answer state raw.now work.now output.now lfe.now }
+    ensures { result ≡ reached_of answer state raw.now work.now output.now lfe.now }
 {
     let a = pack(answer);
     let r = hash(raw);
@@ -132,7 +132,7 @@ pub struct Differences {
 }
 
 pub fn compare(a: Outcome, b: Outcome) -> Differences
-    ensures { result ≡ differencesOf a b }
+    ensures { result ≡ differences_of a b }
 {
     Differences {
         answer: a.answer != b.answer,

@@ -1,6 +1,6 @@
 // What was compared so far.
 ghost use Rattle.std.specs.Prelude.{◌≡◌};
-ghost use Rattle.replay_list.specs.Outcome.{answeredOf, talliedOf};
+ghost use Rattle.replay_list.specs.Outcome.{answered_of, tallied_of};
 
 #[derive(Clone, Copy)]
 pub struct Tally {
@@ -15,7 +15,7 @@ pub struct Tally {
 
 // One frame more with an answer of this number.
 fn answered(answers: [u64; 15], n: usize) -> [u64; 15]
-    ensures { result ≡ answeredOf answers n }
+    ensures { result ≡ answered_of answers n }
 {
     if 15 <= n {
         return answers;
@@ -27,7 +27,7 @@ fn answered(answers: [u64; 15], n: usize) -> [u64; 15]
 
 // One frame more.
 pub fn tallied(t: Tally, answer: u64, values: u64, different: bool) -> Tally
-    ensures { result ≡ talliedOf t answer values different }
+    ensures { result ≡ tallied_of t answer values different }
 {
     let before = t.answers;
     let answers = answered(before, (answer % 256) as usize);

@@ -1,6 +1,6 @@
 // The values of a frame, drawn from its seed.
 ghost use Rattle.std.specs.Prelude.{◌≡◌, length};
-ghost use Rattle.replay_list.specs.Values.{drawn, drawnTo, fractionOf, magnitudeOf, value_of, valuesAfter, wildOf, withWild};
+ghost use Rattle.replay_list.specs.Values.{drawn, drawn_to, fraction_of, magnitude_of, value_of, values_after, wild_of, with_wild};
 
 // The number that is drawn after x: xorshift64.
 pub fn draw(x: u64) -> u64
@@ -13,7 +13,7 @@ pub fn draw(x: u64) -> u64
 
 // The number after n draws.
 pub fn draw_on(x: u64, n: usize) -> u64
-    ensures { result ≡ drawnTo n x }
+    ensures { result ≡ drawn_to n x }
 {
     let mut next = x;
     let mut k = 0usize;
@@ -25,13 +25,13 @@ pub fn draw_on(x: u64, n: usize) -> u64
 }
 
 pub fn fraction(k: u32) -> f64
-    ensures { result ≡ fractionOf k }
+    ensures { result ≡ fraction_of k }
 {
     k as f64 / 1048576.0
 }
 
 fn magnitude(x: u64) -> u32
-    ensures { result ≡ magnitudeOf x }
+    ensures { result ≡ magnitude_of x }
 {
     if x % 16 == 0 {
         return 0;
@@ -52,7 +52,7 @@ pub fn value_of(x: u64) -> f64
 
 // Fills dst with the values that are drawn after the first `before`.
 pub fn fill_values(dst: &mut [f64], seed: u64, before: usize)
-    ensures { dst.new ≡ valuesAfter seed before (length dst.old) }
+    ensures { dst.new ≡ values_after seed before (length dst.old) }
 {
     let mut x = draw_on(seed, before);
     let mut k = 0usize;
@@ -65,7 +65,7 @@ pub fn fill_values(dst: &mut [f64], seed: u64, before: usize)
 
 // A value that no frame may have.
 pub fn wild_value(kind: u8) -> f64
-    ensures { result ≡ wildOf kind }
+    ensures { result ≡ wild_of kind }
 {
     match kind {
         1 => fraction(4194305),
@@ -78,7 +78,7 @@ pub fn wild_value(kind: u8) -> f64
 
 // Puts the wild value at its place, where dst, which starts at the place `first`, has it.
 pub fn put_wild(dst: &mut [f64], first: usize, kind: u8, place: usize)
-    ensures { dst.new ≡ withWild first kind place dst.old }
+    ensures { dst.new ≡ with_wild first kind place dst.old }
 {
     if kind == 0 {
         return;

@@ -1,3 +1,8 @@
 -- What the proofs of several functions use.
 pub mod Machine
 mod Literal
+pub mod AsRaw
+pub mod Constants
+pub mod Digits
+pub mod Fits
+pub mod Flip

@@ -13,10 +13,10 @@ use mir.Syntax.{w32}
 use mir.Val.{SFits, to_z, of_z}
 use mir.ValLaws.{to_z_pos, to_z-of_z}
 use Rattle.floats.specs.Raw.{centred}
-use Rattle.floats.specs.Inverse.{by-inverse}
+use Rattle.floats.proofs.Inverse.{by-inverse}
 use Rattle.requant.specs.Requant.{fraction}
-use Rattle.requant.specs.Flip.{in_halves}
-use Rattle.requant.specs.AsRaw.{fraction-centred}
+use Rattle.requant.proofs.Flip.{in_halves}
+use Rattle.requant.proofs.AsRaw.{fraction-centred}
 use Rattle.requant.proofs.Literal.{literal-1}
 
 -- 1 << a

@@ -4,7 +4,7 @@ use Rattle.std.specs.Prelude.{false, cond, List, [], ◌∷◌, ℕ, ◌+◌, �
 use Rattle.std.specs.Int.Bits.{bit_xor}
 use Rattle.std.specs.Float.{binary64}
 use Rattle.std.specs.Float.Ieee.{minus, round, add, sub, mul, div, of_int}
-use Rattle.tables.specs.Scalefactor.{scalefactorOf}
+use Rattle.tables.specs.Scalefactor.{scalefactor_of}
 use Rattle.bitalloc.specs.declared.QuantClass.{QuantClass}
 use Rattle.bitalloc.specs.Classes.{class_of}
 
@@ -19,13 +19,13 @@ abbrev pub inverted : ℕ → ℕ → ℕ
 inverted n code = bit_xor code (2 ^ (n - 1))
 
 -- n bits in two's complement: the first bit stands for -2 ^ (n - 1)
-abbrev pub twosComplement : ℕ → ℕ → ℤ
-twosComplement n x = cond (ltb x (2 ^ (n - 1))) (pos x) (minus x (2 ^ n))
+abbrev pub twos_complement : ℕ → ℕ → ℤ
+twos_complement n x = cond (ltb x (2 ^ (n - 1))) (pos x) (minus x (2 ^ n))
 
 -- "the resulting numbers should be regarded as two's complement fractional numbers, where the MSB represents the value -1"
 unfoldable pub fraction : ℕ → ℕ → Float
 unfolding div of_int
-fraction n code = div binary64 (of_int binary64 (twosComplement n (inverted n code))) (whole (2 ^ (n - 1)))
+fraction n code = div binary64 (of_int binary64 (twos_complement n (inverted n code))) (whole (2 ^ (n - 1)))
 
 -- s'' = C * (s''' + D)
 unfoldable pub requantized : QuantClass → ℕ → Float
@@ -33,8 +33,8 @@ unfolding fraction add mul
 requantized class code = mul binary64 class.c (add binary64 (fraction class.bits_per_sample code) class.d)
 
 -- the raw value of a code of the class with this number of steps
-abbrev pub rawOf : ℕ → ℕ → Float
-rawOf steps code = requantized (class_of steps) code
+abbrev pub raw_of : ℕ → ℕ → Float
+raw_of steps code = requantized (class_of steps) code
 
 -- ---- the same clause: the three samples of a grouped code c, s[i] = c % nlevels; c = c DIV nlevels
 unfoldable pub degrouped : ℕ → ℕ → List ℕ
@@ -43,25 +43,25 @@ degrouped nlevels c = c % nlevels ∷ c / nlevels % nlevels ∷ c / nlevels / nl
 -- ---- ISO/IEC 13818-3, 2.5.3.2.4: the low frequency enhancement channel, nb bits to a sample
 
 -- 2 ^ nb / (2 ^ nb - 1)
-unfoldable pub lfeC : ℕ → Float
+unfoldable pub lfe_c : ℕ → Float
 unfolding div sub of_int
-lfeC nb = div binary64 (whole (2 ^ nb)) (sub binary64 (whole (2 ^ nb)) (whole 1))
+lfe_c nb = div binary64 (whole (2 ^ nb)) (sub binary64 (whole (2 ^ nb)) (whole 1))
 
 -- 2 ^ (1 - nb), which is exact
-unfoldable pub lfeD : ℕ → Float
+unfoldable pub lfe_d : ℕ → Float
 unfolding round
-lfeD nb = round binary64 false 1 (2 ^ (nb - 1))
+lfe_d nb = round binary64 false 1 (2 ^ (nb - 1))
 
-unfoldable pub lfeOf : ℕ → ℕ → Float
-unfolding lfeC lfeD fraction add mul
-lfeOf nb code = mul binary64 (lfeC nb) (add binary64 (fraction nb code) (lfeD nb))
+unfoldable pub lfe_of : ℕ → ℕ → Float
+unfolding lfe_c lfe_d fraction add mul
+lfe_of nb code = mul binary64 (lfe_c nb) (add binary64 (fraction nb code) (lfe_d nb))
 
 -- under an allocation from 1 to 15 a sample has one bit more, and it is scaled
-unfoldable pub lfeSampleOf : ℕ → ℕ → ℕ → Float
-unfolding lfeOf mul scalefactorOf
-lfeSampleOf allocation index code = mul binary64 (lfeOf (allocation + 1) code) (scalefactorOf index)
+unfoldable pub lfe_sample_of : ℕ → ℕ → ℕ → Float
+unfolding lfe_of mul scalefactor_of
+lfe_sample_of allocation index code = mul binary64 (lfe_of (allocation + 1) code) (scalefactor_of index)
 
 -- ---- ISO/IEC 13818-3, 2.5.3.2.1.3: a prediction coefficient, (byte - 127) / 32
-unfoldable pub coefficientOf : ℕ → Float
+unfoldable pub coefficient_of : ℕ → Float
 unfolding div sub of_int
-coefficientOf byte = div binary64 (sub binary64 (whole byte) (whole 127)) (whole 32)
+coefficient_of byte = div binary64 (sub binary64 (whole byte) (whole 127)) (whole 32)

@@ -2,7 +2,7 @@
 #![tactic(auto)]
 
 ghost use Rattle.std.specs.Prelude.{◌≡◌, ◌<◌, ◌≤◌, ◌^◌, ◌+◌};
-ghost use Rattle.requant.specs.Requant.{fraction, requantized, degrouped, lfeOf, lfeSampleOf, coefficientOf};
+ghost use Rattle.requant.specs.Requant.{fraction, requantized, degrouped, lfe_of, lfe_sample_of, coefficient_of};
 
 use bitalloc::QuantClass;
 
@@ -44,7 +44,7 @@ pub fn degroup(nb_steps: u32, combined: u32) -> [u32; 3]
 pub fn requantize_lfe(code: u32, nb: u32) -> f64
     requires width { (2 ≤ nb) × (nb ≤ 16) }
     requires code_bound { code < 2 ^ nb }
-    ensures { result ≡ lfeOf nb code }
+    ensures { result ≡ lfe_of nb code }
 {
     let two_nb: u32 = 1 << nb;
     let msb: u32 = 1 << (nb - 1);
@@ -57,14 +57,14 @@ pub fn lfe_sample(allocation: u32, scalefactor: usize, code: u32) -> f64
     requires allocation { (1 ≤ allocation) × (allocation ≤ 15) }
     requires scalefactor_bound { scalefactor < 63 }
     requires code_bound { code < 2 ^ (allocation + 1) }
-    ensures { result ≡ lfeSampleOf allocation scalefactor code }
+    ensures { result ≡ lfe_sample_of allocation scalefactor code }
 {
     requantize_lfe(code, allocation + 1) * tables::scalefactor(scalefactor)
 }
 
 // A prediction coefficient.
 pub fn pred_coef(byte: u8) -> f64
-    ensures { result ≡ coefficientOf byte }
+    ensures { result ≡ coefficient_of byte }
 {
     (byte as f64 - 127.0) / 32.0
 }

@@ -1,3 +1,2 @@
 -- The scalefactors, and a law of their table.
 pub mod Scalefactor
-pub mod Lookup

@@ -35,6 +35,6 @@ unfolding numerators round
 scalefactors = map (decimal 14) numerators
 
 -- its entry at an index below 63
-unfoldable pub scalefactorOf : ℕ → Float
+unfoldable pub scalefactor_of : ℕ → Float
 unfolding numerators round
-scalefactorOf index = decimal 14 (get_or numerators index 0)
+scalefactor_of index = decimal 14 (get_or numerators index 0)

@@ -2,7 +2,7 @@
 #![tactic(auto)]
 
 ghost use Rattle.std.specs.Prelude.{◌≡◌, ◌<◌};
-ghost use Rattle.tables.specs.Scalefactor.{scalefactors, scalefactorOf};
+ghost use Rattle.tables.specs.Scalefactor.{scalefactors, scalefactor_of};
 
 // A scalefactor index has six bits, and the index 63 stands for no scalefactor.
 pub const SCALEFACTOR_COUNT: usize = 63;
@@ -76,7 +76,7 @@ pub const SCALEFACTORS: [f64; SCALEFACTOR_COUNT] = [
 // Table B.1 at an index.
 pub fn scalefactor(index: usize) -> f64
     requires { index < 63 }
-    ensures { result ≡ scalefactorOf index }
+    ensures { result ≡ scalefactor_of index }
 {
     SCALEFACTORS[index]
 }

@@ -8,8 +8,8 @@ use lib.Dec.{lit<}
 use lib.ListN.{get_or}
 use lib.Pow.{shl_exact}
 use Rattle.bits.specs.Bits.{value_at}
-use Rattle.bits.specs.BitsLaws.{value<}
-use Rattle.window.specs.ThreeLaws.{value-word}
+use Rattle.bits.proofs.BitsLaws.{value<}
+use Rattle.window.proofs.ThreeLaws.{value-word}
 
 -- `1 << n` at 64 bits
 pub one_shl_64 : (n : ℕ) → n ≤ 16 → (1 * 2 ^ n) % 2 ^ 64 ≡ 2 ^ n

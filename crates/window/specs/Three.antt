@@ -4,8 +4,8 @@ use Rattle.cursor.specs.Cursor.{step}
 use Rattle.cursor.specs.declared.Cursor.{Cursor}
 use Rattle.window.specs.declared.ThreeReads.{ThreeReads}
 
-unfoldable pub threeSteps : List ℕ → ℕ → Cursor → ℕ → ThreeReads
-threeSteps bytes limit c n =
+unfoldable pub three_steps : List ℕ → ℕ → Cursor → ℕ → ThreeReads
+three_steps bytes limit c n =
     let x = step bytes limit c n in
     let y = step bytes limit x n in
     record { first = x.value; second = y.value; cursor = step bytes limit y n }

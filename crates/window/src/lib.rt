@@ -3,7 +3,7 @@
 
 ghost use Rattle.std.specs.Prelude.{◌≡◌, true, ◌+◌, ◌-◌, ◌*◌, ◌/◌, ◌%◌, ◌^◌, ◌≤◌, length};
 ghost use Rattle.bits.specs.Bits.{value_at};
-ghost use Rattle.window.specs.Three.{Wide, threeSteps};
+ghost use Rattle.window.specs.Three.{Wide, three_steps};
 
 use cursor::{Cursor, read};
 
@@ -59,7 +59,7 @@ pub struct ThreeReads {
 // Three reads of n bits one after the other, out of one window of eight bytes where there is one.
 pub fn read_three(bytes: &[u8], limit: usize, c: Cursor, n: usize) -> ThreeReads
     requires { n ≤ 16 }
-    ensures { result ≡ threeSteps bytes.now limit c n }
+    ensures { result ≡ three_steps bytes.now limit c n }
 {
     let at = c.at;
     if c.err == 0 {

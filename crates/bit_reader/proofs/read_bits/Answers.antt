@@ -3,18 +3,18 @@ use Prim.Native.Nat.{◌+◌}
 use native.Mathlib.Omega.{arith}
 use lib.Pow.{pow_pos}
 use borrow.Author.Tests.{le-leb, lt-leb}
-use Rattle.bit_reader.specs.Answer.{readAt}
+use Rattle.bit_reader.specs.Answer.{read_at}
 use Rattle.bit_reader.proofs.Window.{computed, one_shl}
 use Rattle.bit_reader.proofs.read_bits.Goals as goal
 
 pub returns-then-limit-n : goal.returns-then-limit-n
-unfolding readAt
+unfolding read_at
 returns-then-limit-n c =
     let a = c.args in
     simp (lt-leb (a.at + a.n) a.limit (omega arith))
 
 pub returns-then-limit-n-2 : goal.returns-then-limit-n-2
-unfolding readAt
+unfolding read_at
 returns-then-limit-n-2 c =
     let a = c.args in
     simp (lt-leb (a.at + a.n) a.limit (omega arith))
@@ -25,7 +25,7 @@ nonzero_rem-value c =
     omega (arith, pow_pos n, one_shl n (omega arith))
 
 pub returns : goal.returns
-unfolding readAt
+unfolding read_at
 returns c =
     let a = c.args in
     simp

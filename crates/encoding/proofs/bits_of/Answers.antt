@@ -1,5 +1,5 @@
 -- `encoding::bits_of` meets its contract.
-use Rattle.encoding.specs.EncodingLaws.{nan-bits, no_nan}
+use Rattle.encoding.proofs.EncodingLaws.{nan-bits, no_nan}
 use Rattle.encoding.proofs.bits_of.Goals as goal
 
 pub float_to_bits-result : goal.float_to_bits-result

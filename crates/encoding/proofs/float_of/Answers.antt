@@ -1,5 +1,5 @@
 -- `encoding::float_of` meets its contract.
-use Rattle.encoding.specs.EncodingLaws.{nan_pattern, no-nan-pattern}
+use Rattle.encoding.proofs.EncodingLaws.{nan_pattern, no-nan-pattern}
 use Rattle.encoding.proofs.float_of.Goals as goal
 
 pub float_from_bits-result : goal.float_from_bits-result

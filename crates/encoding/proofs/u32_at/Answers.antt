@@ -1,6 +1,6 @@
 -- `encoding::u32_at` meets its contract: four bytes fit.
 use native.Mathlib.Omega.{arith}
-use Rattle.encoding.specs.EncodingLaws.{four-fits}
+use Rattle.encoding.proofs.EncodingLaws.{four-fits}
 use Rattle.encoding.proofs.u32_at.Goals as goal
 
 pub overflow_cast-result : goal.overflow_cast-result

@@ -1,6 +1,6 @@
 -- `encoding::u8_at` meets its contract: one byte fits.
 use native.Mathlib.Omega.{arith}
-use Rattle.encoding.specs.EncodingLaws.{one-fits}
+use Rattle.encoding.proofs.EncodingLaws.{one-fits}
 use Rattle.encoding.proofs.u8_at.Goals as goal
 
 pub overflow_cast-result : goal.overflow_cast-result

@@ -1,7 +1,7 @@
 -- `clear` meets its contract.
 use mathlib.Core.Path.{refl}
 use native.Mathlib.Omega.{arith}
-use Rattle.fill.specs.InOrder.{starts, more, ends-all}
+use Rattle.fill.proofs.InOrder.{starts, more, ends-all}
 use Rattle.fill.proofs.clear.Goals as goal
 
 pub loop-k-init : goal.loop-k-init

@@ -1,7 +1,7 @@
 -- `clear` meets its contract.
 use Prim.Native.Nat.{ℕ, ◌-◌}
 use lib.ListN.{length}
-use Rattle.fill.specs.InOrder.{Filling}
+use Rattle.fill.proofs.InOrder.{Filling}
 use Rattle.floats.specs.Binary64.{zero64}
 use Rattle.fill.proofs.clear.Given as goal
 

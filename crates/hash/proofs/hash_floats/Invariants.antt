@@ -1,10 +1,10 @@
 -- `encoding::hash_floats` meets its contract. The hash of the floats that are left stays the same.
 use Rattle.std.proofs.Common.{◌≡◌, ◌-◌, length, drop}
-use Rattle.encoding.specs.Encoding.{hashFloats}
+use Rattle.encoding.specs.Encoding.{hash_floats}
 use Rattle.hash.proofs.hash_floats.Given as goal
 
 abbrev pub invariant-loop-i : goal.invariant-loop-i
-invariant-loop-i l = hashFloats l.hash (drop l.i l.xs) ≡ hashFloats l.h l.xs
+invariant-loop-i l = hash_floats l.hash (drop l.i l.xs) ≡ hash_floats l.h l.xs
 
 abbrev pub decreases-loop-i : goal.decreases-loop-i
 decreases-loop-i l = length l.xs - l.i

@@ -1,6 +1,6 @@
 -- `encoding::times_prime` meets its contract.
 use Rattle.std.proofs.Common.{ℕ, ◌+◌, ◌*◌, ◌%◌, ap, ◌∙◌}
-use Rattle.encoding.specs.EncodingLaws.{product}
+use Rattle.encoding.proofs.EncodingLaws.{product}
 use Rattle.hash.proofs.times_prime.Goals as goal
 
 pub returns : goal.returns

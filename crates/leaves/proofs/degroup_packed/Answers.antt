@@ -7,7 +7,7 @@ use native.Mathlib.Omega.{arith}
 use lib.ListN.{get_or}
 use borrow.Author.Rules.{rules}
 use Rattle.requant.specs.Requant.{degrouped}
-use Rattle.requant.specs.Digits.{digit_lt}
+use Rattle.requant.proofs.Digits.{digit_lt}
 use Rattle.leaves.specs.Leaves.{packed}
 use Rattle.leaves.proofs.degroup_packed.Goals as goal
 

@@ -1,26 +1,26 @@
--- `leaves::mc_leaf_degroup` meets its contract: each return answers what `degroupLeaf` picks by the tests that led there.
+-- `leaves::mc_leaf_degroup` meets its contract: each return answers what `degroup_leaf` picks by the tests that led there.
 use mathlib.Core.Path.{◌≡◌, sym, ap, ◌∙◌, subst}
 use mathlib.Core.Bool.{Bool, true, false}
 use Prim.Native.Nat.{ℕ, ◌^◌, ◌≤◌, ◌<◌}
 use native.Mathlib.Omega.{arith}
 use lib.Dec.{T, ltb}
 use Rattle.bitalloc.specs.declared.QuantClass.{QuantClass}
-use Rattle.bitalloc.specs.Classes.{isClass, class_of, grouped, bitsPerCodeword}
-use Rattle.bitalloc.specs.Places.{class-steps, class-grouped}
-use Rattle.bitalloc.specs.Rules.{steps-rules, group-steps}
+use Rattle.bitalloc.specs.Classes.{is_class, class_of, grouped, bits_per_codeword}
+use Rattle.bitalloc.proofs.Places.{class-steps, class-grouped}
+use Rattle.bitalloc.proofs.Rules.{steps-rules, group-steps}
 use Rattle.requant.specs.Requant.{degrouped}
-use Rattle.leaves.specs.Leaves.{packed, degroupLeaf}
+use Rattle.leaves.specs.Leaves.{packed, degroup_leaf}
 use Rattle.leaves.proofs.mc_leaf_degroup.Goals as goal
 
 module _ (steps : ℕ) (class : QuantClass) (r : class ≡ class_of steps) where
   group : (t : Bool) → class.grouping ≡ t → grouped steps ≡ t
   group t g = ap (λ (q : QuantClass). q.grouping) (sym r) ∙ g
 
-  single : (combined : ℕ) → class.grouping ≡ false → 0 ≡ degroupLeaf steps combined
+  single : (combined : ℕ) → class.grouping ≡ false → 0 ≡ degroup_leaf steps combined
   single combined g = simp (group false g)
 
   module _ (g : class.grouping ≡ true) where
-    known : T (isClass steps)
+    known : T (is_class steps)
     known = class-grouped steps (group true g)
 
     short : class.bits_per_codeword ≤ 16
@@ -33,13 +33,13 @@ module _ (steps : ℕ) (class : QuantClass) (r : class ≡ class_of steps) where
         subst (λ (n : ℕ). (0 < n) × (n ≤ 9)) (class-steps steps known) (omega arith, high)
 
     module _ (combined : ℕ) (b : Bool) (f : b ≡ ltb combined (2 ^ class.bits_per_codeword)) where
-      test : (t : Bool) → b ≡ t → ltb combined (2 ^ bitsPerCodeword steps) ≡ t
+      test : (t : Bool) → b ≡ t → ltb combined (2 ^ bits_per_codeword steps) ≡ t
       test t i = ap (λ (q : QuantClass). ltb combined (2 ^ q.bits_per_codeword)) (sym r) ∙ sym f ∙ i
 
-      inside : (x : ℕ) → b ≡ true → x ≡ packed (degrouped steps combined) → x ≡ degroupLeaf steps combined
+      inside : (x : ℕ) → b ≡ true → x ≡ packed (degrouped steps combined) → x ≡ degroup_leaf steps combined
       inside x t i = simp (group true g, test true t) i
 
-      outside : b ≡ false → 0 ≡ degroupLeaf steps combined
+      outside : b ≡ false → 0 ≡ degroup_leaf steps combined
       outside t = simp (group true g, test false t)
 
 pub returns-then-not-grouping : goal.returns-then-not-grouping

@@ -1,4 +1,4 @@
--- `leaves::mc_leaf_requantize_code` meets its contract: each return answers what `requantizeLeaf` picks by the tests that led there.
+-- `leaves::mc_leaf_requantize_code` meets its contract: each return answers what `requantize_leaf` picks by the tests that led there.
 use mathlib.Core.Path.{◌≡◌, sym, ap, ◌∙◌, subst}
 use mathlib.Core.Bool.{Bool, true, false}
 use Prim.Native.Nat.{ℕ, ◌^◌, ◌≤◌, ◌<◌}
@@ -8,14 +8,14 @@ use lib.Ieee.{Float, of_bits}
 use borrow.Author.Rules.{rules}
 use borrow.Author.Tests.{lt-ltb, le-ltb, ltb-true}
 use Rattle.bitalloc.specs.declared.QuantClass.{QuantClass}
-use Rattle.bitalloc.specs.Classes.{class_at, classIndex, isClass, class_of, bitsPerSample}
-use Rattle.bitalloc.specs.Rules.{Rules, class-rules}
+use Rattle.bitalloc.specs.Classes.{class_at, class_index, is_class, class_of, bits_per_sample}
+use Rattle.bitalloc.proofs.Rules.{Rules, class-rules}
 use Rattle.requant.specs.Requant.{requantized}
-use Rattle.leaves.specs.Leaves.{plusZero, requantizeLeaf}
+use Rattle.leaves.specs.Leaves.{plus_zero, requantize_leaf}
 use Rattle.leaves.proofs.mc_leaf_requantize_code.Goals as goal
 
-unknown : (steps index code : ℕ) → index ≡ classIndex steps → 17 ≤ index → plusZero ≡ requantizeLeaf steps code
-unknown steps index code e h = simp (le-ltb (classIndex steps) 17 (subst (λ (n : ℕ). 17 ≤ n) e h))
+unknown : (steps index code : ℕ) → index ≡ class_index steps → 17 ≤ index → plus_zero ≡ requantize_leaf steps code
+unknown steps index code e h = simp (le-ltb (class_index steps) 17 (subst (λ (n : ℕ). 17 ≤ n) e h))
 
 -- the class at a place
 module _ (index : ℕ) (class : QuantClass) (h : index < 17) (r : class ≡ class_at index) where
@@ -32,20 +32,20 @@ module _ (index : ℕ) (class : QuantClass) (h : index < 17) (r : class ≡ clas
 below : (code : ℕ) (class : QuantClass) (b : Bool) → b ≡ ltb code (2 ^ class.bits_per_sample) → b ≡ true → code < 2 ^ class.bits_per_sample
 below code class b f t = ltb-true code (2 ^ class.bits_per_sample) (sym f ∙ t)
 
-module _ (steps index code : ℕ) (class : QuantClass) (b : Bool) (e : index ≡ classIndex steps) (h : index < 17) (r : class ≡ class_at index) (f : b ≡ ltb code (2 ^ class.bits_per_sample)) where
-  known : isClass steps ≡ true
-  known = lt-ltb (classIndex steps) 17 (subst (λ (n : ℕ). n < 17) e h)
+module _ (steps index code : ℕ) (class : QuantClass) (b : Bool) (e : index ≡ class_index steps) (h : index < 17) (r : class ≡ class_at index) (f : b ≡ ltb code (2 ^ class.bits_per_sample)) where
+  known : is_class steps ≡ true
+  known = lt-ltb (class_index steps) 17 (subst (λ (n : ℕ). n < 17) e h)
 
   same : class ≡ class_of steps
   same = r ∙ ap class_at e
 
-  test : (t : Bool) → b ≡ t → ltb code (2 ^ bitsPerSample steps) ≡ t
+  test : (t : Bool) → b ≡ t → ltb code (2 ^ bits_per_sample steps) ≡ t
   test t g = ap (λ (q : QuantClass). ltb code (2 ^ q.bits_per_sample)) (sym same) ∙ sym f ∙ g
 
-  inside : (x : Float) → b ≡ true → x ≡ requantized class code → x ≡ requantizeLeaf steps code
+  inside : (x : Float) → b ≡ true → x ≡ requantized class code → x ≡ requantize_leaf steps code
   inside x t g = simp (known, test true t) (g ∙ ap (λ (q : QuantClass). requantized q code) same)
 
-  outside : b ≡ false → plusZero ≡ requantizeLeaf steps code
+  outside : b ≡ false → plus_zero ≡ requantize_leaf steps code
   outside t = simp (known, test false t)
 
 pub returns-then-index-ge-CLASS_COUNT : goal.returns-then-index-ge-CLASS_COUNT

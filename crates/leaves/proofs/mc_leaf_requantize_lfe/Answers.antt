@@ -1,4 +1,4 @@
--- `leaves::mc_leaf_requantize_lfe` meets its contract: each return answers what `lfeLeaf` picks by the tests that led there.
+-- `leaves::mc_leaf_requantize_lfe` meets its contract: each return answers what `lfe_leaf` picks by the tests that led there.
 use mathlib.Core.Path.{◌≡◌, sym, ◌∙◌}
 use mathlib.Core.Bool.{Bool, true, false}
 use Prim.Native.Nat.{ℕ, ◌+◌, ◌^◌, ◌≤◌, ◌<◌}
@@ -6,18 +6,18 @@ use lib.Dec.{ltb}
 use lib.Ieee.{Float, of_bits}
 use borrow.Author.Rules.{rules}
 use borrow.Author.Tests.{lt-ltb, le-ltb, lt-leb, le-leb, ltb-true}
-use Rattle.requant.specs.Requant.{lfeSampleOf}
-use Rattle.leaves.specs.Leaves.{plusZero, lfeLeaf}
+use Rattle.requant.specs.Requant.{lfe_sample_of}
+use Rattle.leaves.specs.Leaves.{plus_zero, lfe_leaf}
 use Rattle.leaves.proofs.mc_leaf_requantize_lfe.Goals as goal
 
 module _ (allocation index code : ℕ) (b : Bool) (A : 1 ≤ allocation) (A' : allocation ≤ 15) (I : index < 63) (e : b ≡ ltb code (2 ^ (allocation + 1))) where
   below : b ≡ true → code < 2 ^ (allocation + 1)
   below t = ltb-true code (2 ^ (allocation + 1)) (sym e ∙ t)
 
-  inside : (x : Float) → b ≡ true → x ≡ lfeSampleOf allocation index code → x ≡ lfeLeaf allocation index code
+  inside : (x : Float) → b ≡ true → x ≡ lfe_sample_of allocation index code → x ≡ lfe_leaf allocation index code
   inside x t r = simp (le-leb _ _ A, le-leb _ _ A', lt-ltb _ _ I, sym e ∙ t) r
 
-  outside : b ≡ false → plusZero ≡ lfeLeaf allocation index code
+  outside : b ≡ false → plus_zero ≡ lfe_leaf allocation index code
   outside t = simp (le-leb _ _ A, le-leb _ _ A', lt-ltb _ _ I, sym e ∙ t)
 
 pub returns-then-allocation-lt1 : goal.returns-then-allocation-lt1

@@ -1,6 +1,6 @@
 -- `mc_dematrix::dematrix` meets its contract: one case for each configuration.
 use borrow.Author.Tests.{ne_eqb}
-use Rattle.mc_config.specs.CaseLaws.{other, byPair-other}
+use Rattle.mc_config.proofs.CaseLaws.{other, by_pair-other}
 use Rattle.mc_dematrix.specs.Dematrix.{dematrixed, weighted, unweighted}
 use Rattle.mc_dematrix.proofs.dematrix.Goals as goal
 
@@ -32,4 +32,4 @@ pub returns-in_default : goal.returns-in_default
 unfolding dematrixed weighted unweighted
 returns-in_default c =
     let o = other c.in_default.in_default-own.rest.0.0.0.0.1 c.in_default.in_default-own.rest.0.0.0.1 c.in_default.in_default-own.rest.0.0.1 c.in_default.in_default-own.rest.0.1 c.in_default.in_default-own.rest.1 in
-    simp (ne_eqb _ 3 c.if-procedure-eq3.false, byPair-other)
+    simp (ne_eqb _ 3 c.if-procedure-eq3.false, by_pair-other)

@@ -1,6 +1,6 @@
 -- `mc_dematrix::passed_through` meets its contract: one case for each configuration.
 use mathlib.Core.Logic.{⊎_elim, inl, inr}
-use Rattle.mc_config.specs.CaseLaws.{other, byPair-other}
+use Rattle.mc_config.proofs.CaseLaws.{other, by_pair-other}
 use Rattle.mc_dematrix.specs.Dematrix.{passed}
 use Rattle.mc_dematrix.proofs.passed_through.Goals as goal
 
@@ -20,4 +20,4 @@ pub returns-in_default : goal.returns-in_default
 unfolding passed
 returns-in_default c =
     let o = other c.in_default.in_default-own.rest.0.0.1 (λ e. c.in_default.in_default-own.rest.0.1 (inr e)) (λ e. c.in_default.in_default-own.rest.1 (inr e)) (λ e. c.in_default.in_default-own.rest.0.1 (inl e)) (λ e. c.in_default.in_default-own.rest.1 (inl e)) in
-    simp byPair-other
+    simp by_pair-other

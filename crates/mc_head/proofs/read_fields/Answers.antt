@@ -1,6 +1,6 @@
 -- `mc_head::read_fields` meets its contract.
 use lib.Dec.{lit≤}
-use Rattle.cursor.specs.CursorLaws.{cur-fits}
+use Rattle.cursor.proofs.CursorLaws.{cur-fits}
 use Rattle.mc_head.proofs.HeadWalk.{widths-fit, fields_read}
 use Rattle.mc_head.proofs.read_fields.Goals as goal
 

@@ -4,11 +4,11 @@ use Prim.Native.Nat.{◌-◌, ◌/◌}
 use lib.Dec.{eqb}
 use lib.ListN.{length}
 use borrow.Author.Rules.{rules}
-use Rattle.fill.specs.ByTurn.{turn-starts}
-use Rattle.mc_base.specs.Base.{scaledBase}
-use Rattle.mc_predict.specs.Laws.Chosen.{chosen-long}
-use Rattle.mc_history.specs.HistoryLaws.{turn-line, line-long, lines_end, history-kept}
-use Rattle.mc_scale.specs.Laws.Strided.{length-strided}
+use Rattle.fill.proofs.ByTurn.{turn-starts}
+use Rattle.mc_base.specs.Base.{scaled_base}
+use Rattle.mc_predict.proofs.Laws.Chosen.{chosen-long}
+use Rattle.mc_history.proofs.HistoryLaws.{turn-line, line-long, lines_end, history-kept}
+use Rattle.mc_scale.proofs.Laws.Strided.{length-strided}
 use native.Mathlib.Omega.{arith}
 use Rattle.mc_history.proofs.history.Goals as goal
 
@@ -32,4 +32,4 @@ loop-line-preserved c =
 pub returns : goal.returns
 returns c =
     let a = c.args in
-    history-kept a.s (scaledBase a.left.now a.right.now) c.second_base-second.ensures (lines_end a.left.now _ _ _ _ c.loop-line.invariant.2 (omega arith) refl)
+    history-kept a.s (scaled_base a.left.now a.right.now) c.second_base-second.ensures (lines_end a.left.now _ _ _ _ c.loop-line.invariant.2 (omega arith) refl)

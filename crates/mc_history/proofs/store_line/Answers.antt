@@ -1,7 +1,7 @@
 -- `store_line` meets its contract. The loop writes nine places in a row.
 use mathlib.Core.Path.{◌≡◌, refl}
 use Prim.Native.Nat.{◌+◌, ◌-◌, ◌*◌}
-use Rattle.mc_scale.specs.Laws.Strided.{stride-starts, stride-more, stride-ends}
+use Rattle.mc_scale.proofs.Laws.Strided.{stride-starts, stride-more, stride-ends}
 use native.Mathlib.Omega.{arith}
 use Rattle.mc_history.proofs.store_line.Goals as goal
 

@@ -1,5 +1,5 @@
 -- `mc_pack::carried` meets its contract.
-use Rattle.mc_state.specs.CarryLaws.{carrying-number}
+use Rattle.mc_state.proofs.CarryLaws.{carrying-number}
 use Rattle.mc_pack.proofs.carried.Reads as reads
 use Rattle.mc_pack.proofs.carried.Lts as lts
 use Rattle.mc_pack.proofs.number_of.Reads as number-of-reads

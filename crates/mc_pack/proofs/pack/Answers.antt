@@ -1,5 +1,5 @@
 -- `mc_pack::pack` meets its contract.
-use Rattle.mc_state.specs.PackLaws.{packs-accepted, packs-refused}
+use Rattle.mc_state.proofs.PackLaws.{packs-accepted, packs-refused}
 use Rattle.mc_pack.proofs.pack.Goals as goal
 
 pub returns-in-Accepted : goal.returns-in-Accepted

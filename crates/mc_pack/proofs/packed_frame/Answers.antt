@@ -1,5 +1,5 @@
 -- `mc_pack::packed_frame` meets its contract.
-use Rattle.mc_state.specs.PackLaws.{packs-after}
+use Rattle.mc_state.proofs.PackLaws.{packs-after}
 use Rattle.mc_pack.proofs.packed_frame.Reads as reads
 use Rattle.mc_pack.proofs.packed_frame.Lts as lts
 use Rattle.mc_pack.proofs.pack.Reads as pack-reads

@@ -1,7 +1,7 @@
 -- `mc_predict::line_of` meets its contract. The loop fills the line in order.
 use Prim.Native.Nat.{◌-◌}
 use borrow.Author.Rules.{rules}
-use Rattle.fill.specs.InOrder.{starts, more, ends-all}
+use Rattle.fill.proofs.InOrder.{starts, more, ends-all}
 use Rattle.mc_predict.specs.Code.PredictByLine.{line_at, line_of}
 use native.Mathlib.Omega.{arith}
 use Rattle.mc_predict.proofs.line_of.Goals as goal

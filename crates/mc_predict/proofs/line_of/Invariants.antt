@@ -1,6 +1,6 @@
 -- `mc_predict::line_of` meets its contract. The loop fills the line in order.
 use Prim.Native.Nat.{◌-◌}
-use Rattle.fill.specs.InOrder.{Filling}
+use Rattle.fill.proofs.InOrder.{Filling}
 use Rattle.mc_predict.specs.Code.PredictByLine.{line_at}
 use Rattle.mc_predict.proofs.line_of.Given as goal
 

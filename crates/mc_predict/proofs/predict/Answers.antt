@@ -2,7 +2,7 @@
 use mathlib.Core.Path.{ap, ◌∙◌}
 use lib.Dec.{eqb}
 use lib.ListN.{length}
-use Rattle.mc_predict.specs.Laws.Chosen.{chosen-long}
+use Rattle.mc_predict.proofs.Laws.Chosen.{chosen-long}
 use Rattle.mc_predict.proofs.predict.Goals as goal
 
 pub predict_groups-requires : goal.predict_groups-requires

@@ -2,7 +2,7 @@
 use mathlib.Core.Path.{◌∙◌}
 use Prim.Native.Nat.{◌-◌}
 use lib.Ieee.{nan}
-use Rattle.mc_scale.specs.Laws.Strided.{stride-starts, stride-more, stride-ends, stride-left}
+use Rattle.mc_scale.proofs.Laws.Strided.{stride-starts, stride-more, stride-ends, stride-left}
 use native.Mathlib.Omega.{arith}
 use Rattle.mc_predict.proofs.predict_column.Goals as goal
 

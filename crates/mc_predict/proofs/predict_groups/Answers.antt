@@ -1,8 +1,8 @@
 -- `mc_predict::predict_groups` meets its contract. The loop takes one group a turn.
 use mathlib.Core.Path.{◌∙◌}
 use Prim.Native.Nat.{◌-◌}
-use Rattle.fill.specs.ByTurn.{turn-starts}
-use Rattle.mc_predict.specs.Laws.Group.{group-predicted, group-passed, groups-end}
+use Rattle.fill.proofs.ByTurn.{turn-starts}
+use Rattle.mc_predict.proofs.Laws.Group.{group-predicted, group-passed, groups-end}
 use native.Mathlib.Omega.{arith}
 use Rattle.mc_predict.proofs.predict_groups.Goals as goal
 use Rattle.mc_predict.proofs.predict_groups.Goals.{then-flags-sb-eq1, else-flags-sb-eq1}

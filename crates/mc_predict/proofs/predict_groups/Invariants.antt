@@ -1,6 +1,6 @@
 -- `mc_predict::predict_groups` meets its contract. The loop takes one group a turn.
 use Prim.Native.Nat.{◌-◌, ◌≤◌}
-use Rattle.mc_predict.specs.Laws.Group.{Groups}
+use Rattle.mc_predict.proofs.Laws.Group.{Groups}
 use Rattle.mc_predict.proofs.predict_groups.Given as goal
 
 abbrev pub invariant-loop-sb : goal.invariant-loop-sb

@@ -2,10 +2,10 @@
 use mathlib.Core.Path.{sym}
 use Prim.Native.Nat.{◌+◌, ◌*◌, ◌-◌}
 use lib.ListN.{get_or}
-use Rattle.fill.specs.ByTurn.{turn-starts}
-use Rattle.mc_crosstalk.specs.Crosstalk.{predictedOf}
-use Rattle.mc_predict.specs.Laws.PlaceIn.{predicted-listed}
-use Rattle.mc_predict.specs.Laws.Subband.{subband-more, subband-ends}
+use Rattle.fill.proofs.ByTurn.{turn-starts}
+use Rattle.mc_crosstalk.specs.Crosstalk.{predicted_of}
+use Rattle.mc_predict.proofs.Laws.PlaceIn.{predicted-listed}
+use Rattle.mc_predict.proofs.Laws.Subband.{subband-more, subband-ends}
 use native.Mathlib.Omega.{arith}
 use Rattle.mc_predict.proofs.predict_subband.Goals as goal
 
@@ -46,7 +46,7 @@ loop-k-preserved c =
       omega arith,
       l.invariant.1,
       rw c.predict_column.ensures
-          (subband-more a.sb (predictedOf a.pair a.mode) a.delays a.coefs a.left.now a.right.now a.work.now m l.invariant.2 c.requires.place.0 (omega arith) (sym e) (rw e (l.invariant.1.once l.k h)) (rw e (l.invariant.1.low l.k h))),
+          (subband-more a.sb (predicted_of a.pair a.mode) a.delays a.coefs a.left.now a.right.now a.work.now m l.invariant.2 c.requires.place.0 (omega arith) (sym e) (rw e (l.invariant.1.once l.k h)) (rw e (l.invariant.1.low l.k h))),
     )
 
 pub shape_of-work : goal.shape_of-work
@@ -55,4 +55,4 @@ shape_of-work c = c.loop-k.invariant.2.long
 pub returns : goal.returns
 returns c =
     let a = c.args in
-    subband-ends a.sb (predictedOf a.pair a.mode) a.delays a.coefs a.left.now a.right.now a.work.now c.loop-k.invariant.2 (omega arith) c.requires.place.1
+    subband-ends a.sb (predicted_of a.pair a.mode) a.delays a.coefs a.left.now a.right.now a.work.now c.loop-k.invariant.2 (omega arith) c.requires.place.1

@@ -3,7 +3,7 @@ use mathlib.Core.Path.{refl, sym}
 use mathlib.Core.List.{[]}
 use lib.ListN.{get_or-eq_default}
 use Rattle.mc_config.specs.Records.{padded}
-use Rattle.mc_config.specs.TableLaws.{get_d_default}
+use Rattle.mc_config.proofs.TableLaws.{get_d_default}
 use Rattle.mc_predictors.proofs.channels_in.Goals as goal
 
 pub returns-then-code-rows : goal.returns-then-code-rows

@@ -5,25 +5,25 @@ use mathlib.Core.Logic.{⊎_elim}
 use Prim.Native.Nat.{ℕ, ◌/◌}
 use native.Mathlib.Omega.{arith}
 use lib.ListN.{get_or, length, get_or-map}
-use Rattle.mc_crosstalk.specs.Crosstalk.{predictedOf, predictorsOf}
-use Rattle.mc_crosstalk.specs.CrosstalkLaws.{predictors-even, predicted-other}
-use Rattle.mc_crosstalk.specs.Predictors.{predictable1, predictable2, predictable3, predictableRows, predictableTable}
-use Rattle.mc_crosstalk.specs.PredictorsLaws.{predictable-agrees}
+use Rattle.mc_crosstalk.specs.Crosstalk.{predicted_of, predictors_of}
+use Rattle.mc_crosstalk.proofs.CrosstalkLaws.{predictors-even, predicted-other}
+use Rattle.mc_crosstalk.specs.Predictors.{predictable1, predictable2, predictable3, predictable_rows, predictable_table}
+use Rattle.mc_crosstalk.proofs.PredictorsLaws.{predictable-agrees}
 use Rattle.mc_config.specs.Records.{padded}
-use Rattle.mc_predictors.specs.Channels.{channelsRecord}
+use Rattle.mc_predictors.specs.Channels.{channels_record}
 use Rattle.mc_predictors.specs.declared.Channels.{Channels}
-use Rattle.mc_config.specs.CaseLaws.{rest-other}
+use Rattle.mc_config.proofs.CaseLaws.{rest-other}
 use Rattle.mc_predictors.proofs.predictable_channels.Goals as goal
 
 -- a row of the pair's table, with fillers, and half the number of predictors
-whole : (pair mode : ℕ) {npred : ℕ} {r : Channels} → npred ≡ predictorsOf pair mode → (r.count ≡ npred / 2) × (r.channels ≡ get_or (map (padded 3 0) (predictableRows pair)) mode (padded 3 0 [])) → r ≡ channelsRecord pair mode
-unfolding predictableTable
+whole : (pair mode : ℕ) {npred : ℕ} {r : Channels} → npred ≡ predictors_of pair mode → (r.count ≡ npred / 2) × (r.channels ≡ get_or (map (padded 3 0) (predictable_rows pair)) mode (padded 3 0 [])) → r ≡ channels_record pair mode
+unfolding predictable_table
 whole pair mode {npred} n e =
-    let half : npred / 2 ≡ length (predictedOf pair mode) = omega (arith, predictors-even pair mode) in
+    let half : npred / 2 ≡ length (predicted_of pair mode) = omega (arith, predictors-even pair mode) in
     λ i.
     record {
       count = (e.0 ∙ half) i;
-      channels = (e.1 ∙ get_or-map (padded 3 0) (predictableRows pair) mode [] ∙ ap (padded 3 0) (predictable-agrees pair mode)) i;
+      channels = (e.1 ∙ get_or-map (padded 3 0) (predictable_rows pair) mode [] ∙ ap (padded 3 0) (predictable-agrees pair mode)) i;
     }
 
 pub returns-in-32 : goal.returns-in-32

@@ -2,9 +2,9 @@
 use Prim.Native.Nat.{◌-◌}
 use lib.Ieee.{nan}
 use borrow.Author.Rules.{rules}
-use Rattle.fill.specs.InOrder.{starts, more, ends-all}
-use Rattle.tables.specs.Lookup.{scalefactors-at}
-use Rattle.mc_scale.specs.Code.ScaleByPlace.{factorsOf}
+use Rattle.fill.proofs.InOrder.{starts, more, ends-all}
+use Rattle.tables.proofs.Lookup.{scalefactors-at}
+use Rattle.mc_scale.specs.Code.ScaleByPlace.{factors_of}
 use native.Mathlib.Omega.{arith}
 use Rattle.mc_scale.proofs.factors_of.Goals as goal
 
@@ -27,5 +27,5 @@ loop-i-preserved c =
     more l.invariant (omega arith) (scalefactors-at _ nan _ c.scalefactor_table-table.ensures low)
 
 pub returns : goal.returns
-unfolding factorsOf
+unfolding factors_of
 returns c = ends-all c.loop-i.invariant (omega arith) (search rules)

@@ -6,11 +6,11 @@ use lib.Ieee.{Float}
 use lib.ListN.{length}
 use Rattle.floats.specs.Binary64.{zero64}
 use Rattle.fill.specs.Tab.{tab}
-use Rattle.fill.specs.TabLaws.{length-tab}
-use Rattle.fill.specs.ByTurn.{turn-starts}
-use Rattle.mc_scale.specs.Code.Column.{placeAt}
-use Rattle.mc_scale.specs.Laws.ScaleByPlace.{scaling-more, scaling-skip, scaling-ends}
-use Rattle.mc_scale.specs.Laws.TwoSteps.{one-step}
+use Rattle.fill.proofs.TabLaws.{length-tab}
+use Rattle.fill.proofs.ByTurn.{turn-starts}
+use Rattle.mc_scale.specs.Code.Column.{place_at}
+use Rattle.mc_scale.proofs.Laws.ScaleByPlace.{scaling-more, scaling-skip, scaling-ends}
+use Rattle.mc_scale.proofs.Laws.TwoSteps.{one-step}
 use native.Mathlib.Omega.{arith}
 use Rattle.mc_scale.proofs.scale.Goals as goal
 use Rattle.mc_scale.proofs.scale.Goals.{then-steps-place-ne0, else-steps-place-ne0}
@@ -20,7 +20,7 @@ cleared-long : (n : ℕ) (d : List Float) → d ≡ tab (λ (k : ℕ). zero64) n
 cleared-long n d e = rw e (length-tab (λ (k : ℕ). zero64) n)
 
 pub factors_of-factors-requires : goal.factors_of-factors-requires
-factors_of-factors-requires c = c.requires.places_fit.factorListed
+factors_of-factors-requires c = c.requires.places_fit.factor_listed
 
 pub loop-i-init : goal.loop-i-init
 loop-i-init c = (omega arith, turn-starts (omega (arith, cleared-long _ _ c.clear.ensures)))
@@ -29,8 +29,8 @@ pub scale_place-requires : goal.scale_place-requires
 scale_place-requires c =
     let l = c in
     let p = l.requires in
-    let h : placeAt l.loop-i.i < 96 = omega arith in
-    (h, p.places_fit.sourceSmall (placeAt l.loop-i.i) h, p.lengths.0, p.places_fit.baseLong (placeAt l.loop-i.i) h, l.loop-i.invariant.1.long ∙ (cleared-long _ _ l.clear.ensures ∙ p.lengths.1))
+    let h : place_at l.loop-i.i < 96 = omega arith in
+    (h, p.places_fit.source_small (place_at l.loop-i.i) h, p.lengths.0, p.places_fit.base_long (place_at l.loop-i.i) h, l.loop-i.invariant.1.long ∙ (cleared-long _ _ l.clear.ensures ∙ p.lengths.1))
 
 pub loop-i-preserved : goal.loop-i-preserved
 loop-i-preserved c =

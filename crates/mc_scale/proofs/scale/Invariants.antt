@@ -1,6 +1,6 @@
 -- `mc_scale::scale` meets its contract. The loop writes one column a turn: those whose turn has been hold the scaled values.
 use Prim.Native.Nat.{◌-◌, ◌≤◌}
-use Rattle.mc_scale.specs.Laws.ScaleByPlace.{Scaling}
+use Rattle.mc_scale.proofs.Laws.ScaleByPlace.{Scaling}
 use Rattle.mc_scale.proofs.scale.Given as goal
 
 abbrev pub invariant-loop-i : goal.invariant-loop-i

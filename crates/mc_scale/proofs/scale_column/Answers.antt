@@ -1,7 +1,7 @@
 -- `mc_scale::scale_column` meets its contract. The loop writes the slots of one column.
 use mathlib.Core.Path.{refl}
 use Prim.Native.Nat.{◌-◌}
-use Rattle.mc_scale.specs.Laws.Strided.{stride-starts, stride-more, stride-ends}
+use Rattle.mc_scale.proofs.Laws.Strided.{stride-starts, stride-more, stride-ends}
 use native.Mathlib.Omega.{arith}
 use Rattle.mc_scale.proofs.scale_column.Goals as goal
 

@@ -1,6 +1,6 @@
 -- `mc_scale::scale_place` meets its contract, by the source of the place.
 use mathlib.Core.Path.{ap, ◌∙◌}
-use Rattle.mc_scale.specs.Laws.Strided.{strided-same}
+use Rattle.mc_scale.proofs.Laws.Strided.{strided-same}
 use lib.ListN.{length}
 use borrow.Author.Tests.{ne_eqb}
 use native.Mathlib.Omega.{arith}

@@ -2,8 +2,8 @@
 use Rattle.std.specs.Prelude.{ℕ, ◌+◌, ◌*◌, ◌/◌, ◌%◌}
 
 -- where the column of a place begins
-abbrev pub columnAt : ℕ → ℕ
-columnAt place = 1152 * (place % 3) + place / 3
+abbrev pub column_at : ℕ → ℕ
+column_at place = 1152 * (place % 3) + place / 3
 
 -- the place in whose column the buffer's element k stands
 abbrev pub place_of : ℕ → ℕ
@@ -14,8 +14,8 @@ abbrev pub slot_of : ℕ → ℕ
 slot_of k = k / 32 % 36
 
 -- the places are taken channel by channel: the one at turn i, and the turn of the element k
-abbrev pub placeAt : ℕ → ℕ
-placeAt i = 3 * (i % 32) + i / 32
+abbrev pub place_at : ℕ → ℕ
+place_at i = 3 * (i % 32) + i / 32
 
 abbrev pub turn_of : ℕ → ℕ
 turn_of k = 32 * (k / 1152) + k % 32

@@ -1,5 +1,5 @@
 -- `parts::first_bytes` meets its contract.
-use Rattle.parts.specs.PartsLaws.{first-bytes}
+use Rattle.parts.proofs.PartsLaws.{first-bytes}
 use Rattle.parts.proofs.first_bytes.Goals as goal
 
 pub returns : goal.returns

@@ -1,5 +1,5 @@
 -- `parts::mc_part_head` meets its contract.
-use Rattle.parts.specs.PartsLaws.{wrong-room, right-room}
+use Rattle.parts.proofs.PartsLaws.{wrong-room, right-room}
 use Rattle.parts.proofs.mc_part_head.Goals as goal
 
 pub returns-then-out-ne-HEAD_BYTES : goal.returns-then-out-ne-HEAD_BYTES

@@ -1,5 +1,5 @@
 -- `parts::pack` meets its contract.
-use Rattle.parts.specs.PartsLaws.{packs-accepted, packs-refused}
+use Rattle.parts.proofs.PartsLaws.{packs-accepted, packs-refused}
 use Rattle.parts.proofs.pack.Goals as goal
 
 pub returns-in-Accepted : goal.returns-in-Accepted

@@ -1,8 +1,8 @@
 -- `parts::write_fields` meets its contract. The loop fills the bytes in order.
 use Prim.Native.Nat.{◌-◌}
 use native.Mathlib.Omega.{arith}
-use Rattle.fill.specs.InOrder.{starts, more, ends-all}
-use Rattle.parts.specs.PartsLaws.{all-bytes}
+use Rattle.fill.proofs.InOrder.{starts, more, ends-all}
+use Rattle.parts.proofs.PartsLaws.{all-bytes}
 use Rattle.parts.proofs.write_fields.Goals as goal
 
 pub loop-k-init : goal.loop-k-init

@@ -1,5 +1,5 @@
 -- `parts::write_head` meets its contract.
-use Rattle.parts.specs.PartsLaws.{writes-accepted, writes-refused}
+use Rattle.parts.proofs.PartsLaws.{writes-accepted, writes-refused}
 use Rattle.parts.proofs.write_head.Goals as goal
 
 pub returns-in-Accepted : goal.returns-in-Accepted

@@ -3,7 +3,7 @@ use mathlib.Core.Path.{refl}
 use lib.Ieee.{of_bits}
 use borrow.Author.Rules.{rules}
 use Rattle.tables.specs.Scalefactor.{scalefactors}
-use Rattle.tables.specs.Lookup.{scalefactors-at}
+use Rattle.tables.proofs.Lookup.{scalefactors-at}
 use Rattle.tables.proofs.scalefactor.Goals as goal
 
 pub returns : goal.returns

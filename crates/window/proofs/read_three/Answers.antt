@@ -1,6 +1,6 @@
 -- `cursor::read_three` meets its contract.
 use native.Mathlib.Omega.{arith}
-use Rattle.window.specs.ThreeLaws.{value-two, three-window, three-read}
+use Rattle.window.proofs.ThreeLaws.{value-two, three-window, three-read}
 use Rattle.window.proofs.Window.{word_small}
 use Rattle.window.proofs.field_of.Reads as field-of-reads
 use Rattle.cursor.proofs.read.Reads as read-reads

@@ -1,6 +1,6 @@
 -- `boundary::print::same_tallies` meets its contract: before a desk the flag is the test of the desks below it.
 use Rattle.std.proofs.Common.{refl, arith}
-use Rattle.fill.specs.EachLaws.{each_start, each_next, each-end}
+use Rattle.fill.proofs.EachLaws.{each_start, each_next, each-end}
 use Rattle.boundary.proofs.print.same_tallies.Goals as goal
 
 pub loop-desk-init : goal.loop-desk-init

@@ -1,5 +1,5 @@
 -- `boundary::print::stored` meets its contract, for one base channel and for two.
-use Rattle.boundary_run.specs.RunLaws.{stored-mono, stored-stereo}
+use Rattle.boundary_run.proofs.RunLaws.{stored-mono, stored-stereo}
 use Rattle.boundary.proofs.print.stored.Goals as goal
 
 pub returns-then-loan-eq1 : goal.returns-then-loan-eq1

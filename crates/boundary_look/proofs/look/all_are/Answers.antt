@@ -1,7 +1,7 @@
 -- `boundary_look::look::all_are` meets its contract: at k the flag is the test of the first k values.
 use Prim.Native.Nat.{◌-◌}
 use native.Mathlib.Omega.{arith}
-use Rattle.fill.specs.EachLaws.{each_start, each_next, each-end}
+use Rattle.fill.proofs.EachLaws.{each_start, each_next, each-end}
 use Rattle.boundary_look.proofs.look.all_are.Goals as goal
 
 pub loop-k-init : goal.loop-k-init

@@ -2,8 +2,8 @@
 use Prim.Native.Nat.{◌-◌}
 use mathlib.Core.Path.{sym, ◌∙◌}
 use native.Mathlib.Omega.{arith}
-use Rattle.fill.specs.EachLaws.{each_start, each_next, each-end}
-use Rattle.boundary_look.specs.LookLaws.{held-zeros, held-bases, held-others}
+use Rattle.fill.proofs.EachLaws.{each_start, each_next, each-end}
+use Rattle.boundary_look.proofs.LookLaws.{held-zeros, held-bases, held-others}
 use Rattle.boundary_look.proofs.look.held.Goals as goal
 
 pub loop-slot-init : goal.loop-slot-init

@@ -2,7 +2,7 @@
 use Prim.Native.Nat.{◌-◌}
 use mathlib.Core.Path.{sym, ◌∙◌}
 use native.Mathlib.Omega.{arith}
-use Rattle.boundary_look.specs.LookLaws.{until-next, until-here, until_end}
+use Rattle.boundary_look.proofs.LookLaws.{until-next, until-here, until_end}
 use Rattle.boundary_look.proofs.look.holds_until.Goals as goal
 
 pub returns-then-held-what : goal.returns-then-held-what

@@ -1,8 +1,8 @@
 -- `boundary_look::look::is_stored` meets its contract: at k the flag is the test of the first k places of both halves.
 use Prim.Native.Nat.{◌-◌}
 use native.Mathlib.Omega.{arith}
-use Rattle.fill.specs.EachLaws.{each_start, each-end}
-use Rattle.boundary_look.specs.LookLaws.{stored_next}
+use Rattle.fill.proofs.EachLaws.{each_start, each-end}
+use Rattle.boundary_look.proofs.LookLaws.{stored_next}
 use Rattle.boundary_look.proofs.look.is_stored.Goals as goal
 
 pub loop-k-init : goal.loop-k-init

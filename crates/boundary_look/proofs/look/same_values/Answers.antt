@@ -1,8 +1,8 @@
 -- `boundary_look::look::same_values` meets its contract: at k the flag is the test of the first k places.
 use Prim.Native.Nat.{◌-◌}
 use native.Mathlib.Omega.{arith}
-use Rattle.fill.specs.EachLaws.{each_start, each_next, each-end}
-use Rattle.boundary_look.specs.LookLaws.{lengths_differ, lengths-agree}
+use Rattle.fill.proofs.EachLaws.{each_start, each_next, each-end}
+use Rattle.boundary_look.proofs.LookLaws.{lengths_differ, lengths-agree}
 use Rattle.boundary_look.proofs.look.same_values.Goals as goal
 
 pub returns-then-xs-ys : goal.returns-then-xs-ys

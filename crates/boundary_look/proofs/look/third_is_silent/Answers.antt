@@ -1,7 +1,7 @@
 -- `boundary_look::look::third_is_silent` meets its contract: at k the flag is the test of the first k values.
 use Prim.Native.Nat.{◌-◌}
 use native.Mathlib.Omega.{arith}
-use Rattle.fill.specs.EachLaws.{each_start, each_next, each-end}
+use Rattle.fill.proofs.EachLaws.{each_start, each_next, each-end}
 use Rattle.boundary_look.proofs.look.third_is_silent.Goals as goal
 
 pub loop-k-init : goal.loop-k-init

@@ -1,5 +1,5 @@
 -- `boundary_run::loan::byte_from` meets its contract: each return goes by the test that led there.
-use Rattle.boundary_run.specs.LoanLaws.{from_start, after-start}
+use Rattle.boundary_run.proofs.LoanLaws.{from_start, after-start}
 use Rattle.boundary_run.proofs.loan.byte_from.Goals as goal
 
 pub returns-then-k-lt29 : goal.returns-then-k-lt29

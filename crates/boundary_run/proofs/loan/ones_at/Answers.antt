@@ -1,5 +1,5 @@
 -- `boundary_run::loan::ones_at` meets its contract: each return goes by the tests that led there.
-use Rattle.boundary_run.specs.LoanLaws.{ones-before, ones-there, ones-after}
+use Rattle.boundary_run.proofs.LoanLaws.{ones-before, ones-there, ones-after}
 use Rattle.boundary_run.proofs.loan.ones_at.Goals as goal
 
 pub returns-then-k-first : goal.returns-then-k-first

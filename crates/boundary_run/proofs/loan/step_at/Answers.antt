@@ -1,5 +1,5 @@
 -- `boundary_run::loan::step_at` meets its contract: each return goes by the tests that led there.
-use Rattle.boundary_run.specs.LoanLaws.{step-beyond, step-above, step-there}
+use Rattle.boundary_run.proofs.LoanLaws.{step-beyond, step-above, step-there}
 use Rattle.boundary_run.proofs.loan.step_at.Goals as goal
 
 pub returns-then-k-channels : goal.returns-then-k-channels

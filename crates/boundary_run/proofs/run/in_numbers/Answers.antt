@@ -1,5 +1,5 @@
 -- `boundary_run::run::in_numbers` meets its contract, case by case.
-use Rattle.boundary_run.specs.ToldLaws.{told-accepted, told-refused}
+use Rattle.boundary_run.proofs.ToldLaws.{told-accepted, told-refused}
 use Rattle.boundary_run.proofs.run.in_numbers.Goals as goal
 
 pub returns-in-Accepted : goal.returns-in-Accepted

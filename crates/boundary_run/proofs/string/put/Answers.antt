@@ -2,7 +2,7 @@
 use mathlib.Core.Path.{refl, sym, ◌∙◌}
 use native.Mathlib.Omega.{arith}
 use lib.ListN.{length-set}
-use Rattle.boundary_run.specs.StringLaws.{put_one, put-none}
+use Rattle.boundary_run.proofs.StringLaws.{put_one, put-none}
 use Rattle.boundary_run.proofs.string.put.Goals as goal
 
 pub loop-left-init : goal.loop-left-init

@@ -4,8 +4,8 @@ use native.Mathlib.Omega.{arith}
 use native.Mathlib.Nat.{min-le_right}
 use lib.ListN.{length-take}
 use lib.Seq.{length-take-le}
-use Rattle.frame_file.specs.FileLaws.{right_of}
-use Rattle.frame_body.specs.LentLaws.{front-tab, front-room, front-count, decoded}
+use Rattle.frame_file.proofs.FileLaws.{right_of}
+use Rattle.frame_body.proofs.LentLaws.{front-tab, front-room, front-count, decoded}
 use Rattle.frame_body.proofs.body.decode_body.Goals as goal
 
 pub slice_bounds-steps-end : goal.slice_bounds-steps-end
@@ -39,7 +39,7 @@ pub slice_bounds-decode_parts-end-2 : goal.slice_bounds-decode_parts-end-2
 slice_bounds-decode_parts-end-2 c = let q = c in let r = right_of q.args.n q.requires.right in front-count _ _ _ (omega (arith, r.two)) _ c.fill_values.ensures
 
 pub decode_parts-requires : goal.decode_parts-requires
-decode_parts-requires c = let q = c in let r = right_of q.args.n q.requires.right in record { whole = q.requires; stepsLong = sym (front-count _ _ _ (omega (arith, r.two)) _ c.fill_steps.ensures); valuesLong = sym (front-count _ _ _ (omega (arith, r.two)) _ c.fill_values.ensures) }
+decode_parts-requires c = let q = c in let r = right_of q.args.n q.requires.right in record { whole = q.requires; steps_long = sym (front-count _ _ _ (omega (arith, r.two)) _ c.fill_steps.ensures); values_long = sym (front-count _ _ _ (omega (arith, r.two)) _ c.fill_values.ensures) }
 
 pub returns : goal.returns
 returns c = let q = c in let r = right_of q.args.n q.requires.right in decoded _ _ _ _ _ _ _ c.decode_parts.ensures (front-tab _ _ _ (omega (arith, r.two)) _ c.fill_steps.ensures) (front-tab _ _ _ (omega (arith, r.two)) _ c.fill_values.ensures)

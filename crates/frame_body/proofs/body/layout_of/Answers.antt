@@ -1,5 +1,5 @@
 -- `frame_body::body::layout_of` meets its contract.
-use Rattle.frame_body.specs.LentLaws.{layout-accepted, layout-refused}
+use Rattle.frame_body.proofs.LentLaws.{layout-accepted, layout-refused}
 use Rattle.frame_body.proofs.body.layout_of.Goals as goal
 
 pub returns-in-Accepted : goal.returns-in-Accepted

@@ -1,6 +1,6 @@
 -- `frame_file::numbers::body_bytes` meets its contract: a frame whose numbers are right fits the space.
 use native.Mathlib.Omega.{arith}
-use Rattle.frame_file.specs.FileLaws.{right_of}
+use Rattle.frame_file.proofs.FileLaws.{right_of}
 use Rattle.frame_file.proofs.numbers.body_bytes.Goals as goal
 
 pub returns : goal.returns

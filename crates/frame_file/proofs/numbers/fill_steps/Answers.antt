@@ -1,7 +1,7 @@
 -- `frame_file::numbers::fill_steps` meets its contract. The loop fills the step counts in order.
 use Prim.Native.Nat.{◌-◌}
 use native.Mathlib.Omega.{arith}
-use Rattle.fill.specs.InOrder.{starts, more, ends-all}
+use Rattle.fill.proofs.InOrder.{starts, more, ends-all}
 use Rattle.frame_file.proofs.numbers.fill_steps.Goals as goal
 
 pub loop-k-init : goal.loop-k-init

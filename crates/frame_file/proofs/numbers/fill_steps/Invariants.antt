@@ -1,12 +1,12 @@
 -- `frame_file::numbers::fill_steps` meets its contract. The loop fills the step counts in order.
 use Prim.Native.Nat.{◌-◌}
 use lib.ListN.{length}
-use Rattle.fill.specs.InOrder.{Filling}
-use Rattle.frame_file.specs.File.{stepAt}
+use Rattle.fill.proofs.InOrder.{Filling}
+use Rattle.frame_file.specs.File.{step_at}
 use Rattle.frame_file.proofs.numbers.fill_steps.Given as goal
 
 abbrev pub invariant-loop-k : goal.invariant-loop-k
-invariant-loop-k l = Filling (stepAt l.bytes) (length l.initial.out) l.initial.out l.out l.k
+invariant-loop-k l = Filling (step_at l.bytes) (length l.initial.out) l.initial.out l.out l.k
 
 abbrev pub decreases-loop-k : goal.decreases-loop-k
 decreases-loop-k l = length l.initial.out - l.k

@@ -3,7 +3,7 @@ use Prim.Native.Nat.{◌-◌}
 use native.Mathlib.Omega.{arith}
 use mathlib.Core.Path.{ap, ◌∙◌}
 use lib.Ieee.{of_bits, binary64}
-use Rattle.fill.specs.InOrder.{starts, more, ends-all}
+use Rattle.fill.proofs.InOrder.{starts, more, ends-all}
 use Rattle.frame_file.proofs.numbers.fill_values.Goals as goal
 
 pub loop-k-init : goal.loop-k-init

@@ -1,7 +1,7 @@
 -- `frame_file::numbers::fill_values` meets its contract. The loop fills the values in order.
 use Prim.Native.Nat.{◌-◌}
 use lib.ListN.{length}
-use Rattle.fill.specs.InOrder.{Filling}
+use Rattle.fill.proofs.InOrder.{Filling}
 use Rattle.frame_file.specs.File.{value_at}
 use Rattle.frame_file.proofs.numbers.fill_values.Given as goal
 

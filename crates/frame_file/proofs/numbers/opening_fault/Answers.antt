@@ -1,5 +1,5 @@
 -- `frame_file::numbers::opening_fault` meets its contract: each return goes by the tests that led there.
-use Rattle.frame_file.specs.FileLaws.{opening-empty, opening-other, opening-cut, opening-flag, opening-right}
+use Rattle.frame_file.proofs.FileLaws.{opening-empty, opening-other, opening-cut, opening-flag, opening-right}
 use mathlib.Core.Path.{sym, ◌∙◌}
 use native.Mathlib.Omega.{arith}
 use Rattle.frame_file.proofs.numbers.opening_fault.Goals as goal

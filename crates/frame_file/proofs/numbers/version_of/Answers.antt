@@ -1,5 +1,5 @@
 -- `frame_file::numbers::version_of` meets its contract: each return goes by the tests that led there.
-use Rattle.frame_file.specs.FileLaws.{version-first, version-second, version-none}
+use Rattle.frame_file.proofs.FileLaws.{version-first, version-second, version-none}
 use mathlib.Core.Path.{sym, ◌∙◌}
 use Rattle.frame_file.proofs.numbers.version_of.Goals as goal
 

@@ -1,6 +1,6 @@
 -- `frame_summary::summary::peak` meets its contract. The largest magnitude from here on, with what was found, stays the same.
 use Rattle.std.proofs.Common.{sym, ◌∙◌, arith}
-use Rattle.frame_summary.specs.SummaryLaws.{peak-more, peak-none, larger-is, larger-not}
+use Rattle.frame_summary.proofs.SummaryLaws.{peak-more, peak-none, larger-is, larger-not}
 use Rattle.frame_summary.proofs.summary.peak.Goals as goal
 
 pub loop-i-preserved : goal.loop-i-preserved

@@ -3,7 +3,7 @@ use mathlib.Core.Path.{◌≡◌, sym, ap}
 use Rattle.fill.specs.Tab.{tab}
 use Rattle.fill.specs.Ascii.{ascii}
 use Rattle.frame_text.specs.Text.{name_of}
-use Rattle.frame_text.specs.TextLaws.{spelled, name-last}
+use Rattle.frame_text.proofs.TextLaws.{spelled, name-last}
 use Rattle.frame_text.proofs.text.name_of.Goals as goal
 
 pub returns-in-0 : goal.returns-in-0

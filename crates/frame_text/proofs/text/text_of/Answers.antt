@@ -2,8 +2,8 @@
 use Prim.Native.Nat.{◌-◌}
 use native.Mathlib.Omega.{arith}
 use mathlib.Core.Path.{refl}
-use Rattle.fill.specs.InOrder.{starts, more}
-use Rattle.frame_text.specs.TextLaws.{copied}
+use Rattle.fill.proofs.InOrder.{starts, more}
+use Rattle.frame_text.proofs.TextLaws.{copied}
 use Rattle.frame_text.proofs.text.text_of.Goals as goal
 
 pub loop-k-init : goal.loop-k-init

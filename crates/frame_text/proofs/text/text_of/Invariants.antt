@@ -1,7 +1,7 @@
 -- `frame_text::text::text_of` meets its contract. The loop copies the letters in order.
 use Prim.Native.Nat.{◌-◌}
 use lib.ListN.{length, get_or}
-use Rattle.fill.specs.InOrder.{Filling}
+use Rattle.fill.proofs.InOrder.{Filling}
 use Rattle.frame_text.proofs.text.text_of.Given as goal
 
 abbrev pub invariant-loop-k : goal.invariant-loop-k

@@ -3,7 +3,7 @@ use mathlib.Core.Path.{sym, ap}
 use Rattle.fill.specs.Tab.{tab}
 use Rattle.fill.specs.Ascii.{ascii}
 use Rattle.frame_text.specs.Text.{words_of}
-use Rattle.frame_text.specs.TextLaws.{spelled}
+use Rattle.frame_text.proofs.TextLaws.{spelled}
 use Rattle.frame_text.proofs.text.words_of.Goals as goal
 
 pub returns-in-UnexpectedEnd : goal.returns-in-UnexpectedEnd

@@ -1,5 +1,5 @@
 -- `allocations::allocation_fits` meets its contract.
-use Rattle.mc_allocations.specs.AllocationsLaws.{allocation-zero, allocation-unsent, allocation-class}
+use Rattle.mc_allocations.proofs.AllocationsLaws.{allocation-zero, allocation-unsent, allocation-class}
 use Rattle.mc_allocations.proofs.allocations.allocation_fits.Goals as goal
 
 pub returns-then-n-eq0 : goal.returns-then-n-eq0

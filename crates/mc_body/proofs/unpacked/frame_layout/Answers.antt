@@ -1,5 +1,5 @@
 -- `mc_body::frame_layout` meets its contract.
-use Rattle.mc_body.specs.UnpackedLaws.{count-is, tens-fit, number_fits, number_is}
+use Rattle.mc_body.proofs.UnpackedLaws.{count-is, tens-fit, number_fits, number_is}
 use Rattle.mc_body.proofs.unpacked.frame_layout.Goals as goal
 
 pub overflow_mul-result : goal.overflow_mul-result

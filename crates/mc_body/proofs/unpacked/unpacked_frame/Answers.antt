@@ -2,7 +2,7 @@
 use mathlib.Core.Path.{ap}
 use mathlib.Core.Bool.{not}
 use Rattle.mc_codes.specs.Outcome.{codes_of}
-use Rattle.mc_body.specs.UnpackedLaws.{lfe-low, surround-low, base-fits, history-same, written_is, refused-number, writable, delays-small, after-refused, after-changed, after-accepted}
+use Rattle.mc_body.proofs.UnpackedLaws.{lfe-low, surround-low, base-fits, history-same, written_is, refused-number, writable, delays-small, after-refused, after-changed, after-accepted}
 use Rattle.mc_body.proofs.unpacked.unpacked_frame.Goals as goal
 
 pub read_mc_payload-p-requires : goal.read_mc_payload-p-requires
@@ -32,7 +32,7 @@ pub history-next-requires : goal.history-next-requires
 history-next-requires c =
     let k = c.settings-s in
     let f = base-fits k.result _ k.ensures _ _ c.requires.long in
-    (f.scaledLeftLong, f.scaledRightLong)
+    (f.scaled_left_long, f.scaled_right_long)
 
 pub returns-then-not-layout_follows : goal.returns-then-not-layout_follows
 returns-then-not-layout_follows c =

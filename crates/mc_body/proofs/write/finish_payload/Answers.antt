@@ -1,6 +1,6 @@
 -- `mc_body::write::finish_payload` meets its contract.
 use Rattle.mc_codes.specs.Outcome.{codes_of}
-use Rattle.mc_body.specs.WriteLaws.{tables, record-fits, work-written}
+use Rattle.mc_body.proofs.WriteLaws.{tables, record-fits, work-written}
 use Rattle.mc_body.proofs.write.finish_payload.Goals as goal
 
 pub finish-requires : goal.finish-requires

@@ -1,5 +1,5 @@
 -- `mc_body::write::write_samples` meets its contract.
-use Rattle.mc_body.specs.WriteLaws.{raw-ready, raw-written, lfe-written}
+use Rattle.mc_body.proofs.WriteLaws.{raw-ready, raw-written, lfe-written}
 use Rattle.mc_body.proofs.write.write_samples.Goals as goal
 
 pub write_raw-requires : goal.write_raw-requires

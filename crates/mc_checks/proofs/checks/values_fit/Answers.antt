@@ -1,6 +1,6 @@
 use mathlib.Core.Path.{◌≡◌}
 use mathlib.Core.Bool.{Bool, ◌&&◌}
-use Rattle.mc_state.specs.Frame.{valuesFit}
+use Rattle.mc_state.specs.Frame.{values_fit}
 use Rattle.mc_checks.proofs.checks.values_fit.Reads as reads
 use Rattle.mc_checks.proofs.checks.values_fit.Lts as lts
 use Rattle.mc_checks.proofs.checks.all_fit.Reads as all-fit-reads
@@ -11,5 +11,5 @@ joined p q r s t = cc
 
 -- src/checks.rt:20:1
 pub returns : goal.returns
-unfolding valuesFit
+unfolding values_fit
 returns c = search joined

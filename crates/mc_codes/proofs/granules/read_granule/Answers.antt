@@ -4,7 +4,7 @@ use Prim.Native.Nat.{◌-◌}
 use native.Mathlib.Omega.{arith}
 use lib.ListN.{length-set}
 use borrow.Author.Rules.{rules}
-use Rattle.cursor.specs.CursorLaws.{cur-fits}
+use Rattle.cursor.proofs.CursorLaws.{cur-fits}
 use Rattle.mc_codes.proofs.GranulesRead.{kept-length, lfe-width, width-below, samples-read, samples-skip, granule-end}
 use Rattle.mc_codes.proofs.granules.read_granule.Goals as goal
 use Rattle.mc_codes.proofs.granules.read_granule.Goals.{then-own-i-ne0, else-own-i-ne0}

@@ -2,8 +2,8 @@
 use native.Mathlib.Omega.{arith}
 use lib.ListN.{length-set}
 use mir.Syntax.{w16}
-use Rattle.cursor.specs.CursorLaws.{cur-fits}
-use Rattle.window.specs.ThreeLaws.{three-fits}
+use Rattle.cursor.proofs.CursorLaws.{cur-fits}
+use Rattle.window.proofs.ThreeLaws.{three-fits}
 use Rattle.mc_codes.proofs.GranulesRead.{group-ran, three-ran}
 use Rattle.mc_codes.proofs.granules.read_samples.Goals as goal
 

@@ -3,7 +3,7 @@ use mathlib.Core.Path.{refl}
 use Prim.Native.Nat.{◌-◌, ◌≤◌}
 use native.Mathlib.Omega.{arith}
 use lib.Dec.{lit≤}
-use Rattle.cursor.specs.CursorLaws.{cur-fits}
+use Rattle.cursor.proofs.CursorLaws.{cur-fits}
 use Rattle.mc_payload.specs.Payload.{scfsi}
 use Rattle.mc_codes.proofs.ScfsiRead.{scfsi-read, scfsi-skip, scfsi-end}
 use Rattle.mc_codes.proofs.payload.read_scfsi.Goals as goal

@@ -1,6 +1,6 @@
 -- `predictors::read_predictor` meets its contract.
 use lib.Dec.{lit≤}
-use Rattle.cursor.specs.CursorLaws.{cur-fits}
+use Rattle.cursor.proofs.CursorLaws.{cur-fits}
 use Rattle.mc_codes.proofs.PredictorsRead.{width-most, predictor-ran}
 use Rattle.mc_codes.proofs.predictors.read_predictor.Goals as goal
 

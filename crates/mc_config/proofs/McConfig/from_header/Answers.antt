@@ -1,8 +1,8 @@
 -- `McConfig::from_header` meets its contract.
 use native.Mathlib.Omega.{arith}
 use borrow.Author.Tests.{ne_eqb}
-use Rattle.mc_config.specs.Config.{configOf}
-use Rattle.mc_config.specs.ConfigLaws.{main-most}
+use Rattle.mc_config.specs.Config.{config_of}
+use Rattle.mc_config.proofs.ConfigLaws.{main-most}
 use Rattle.mc_config.proofs.McConfig.from_header.Goals as goal
 use Rattle.mc_config.proofs.McConfig.from_header.Goals.{then-h-eq3, else-h-eq3}
 
@@ -13,7 +13,7 @@ overflow_add-result c =
     elim c.if-h-eq3.branch [ then-h-eq3 j ↦ omega arith | else-h-eq3 j ↦ omega arith ]
 
 pub returns : goal.returns
-unfolding configOf
+unfolding config_of
 returns c =
     let w = c.widths_of-widths.ensures in
     let p = c.pair_of.ensures in

@@ -1,7 +1,7 @@
 -- `config::widths_of` meets its contract.
 use mathlib.Core.Path.{refl}
 use mathlib.Core.Logic.{⊎_elim, inl, inr}
-use Rattle.mc_config.specs.CaseLaws.{other, byPair-other}
+use Rattle.mc_config.proofs.CaseLaws.{other, by_pair-other}
 use Rattle.mc_config.proofs.config.widths_of.Goals as goal
 
 pub returns-in-32 : goal.returns-in-32
@@ -19,4 +19,4 @@ returns-in-22 c = rw c.in-22.is (refl, refl, refl)
 pub returns-in_default : goal.returns-in_default
 returns-in_default c =
     let none = other c.in_default.in_default-own.rest.0.0.0.1 c.in_default.in_default-own.rest.0.0.1 (λ e. c.in_default.in_default-own.rest.0.1 (inr e)) c.in_default.in_default-own.rest.1 (λ e. c.in_default.in_default-own.rest.0.1 (inl e)) in
-    simp byPair-other (refl, refl, refl)
+    simp by_pair-other (refl, refl, refl)

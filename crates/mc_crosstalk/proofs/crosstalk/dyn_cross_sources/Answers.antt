@@ -6,32 +6,32 @@ use mathlib.Core.Logic.{⊎_elim}
 use Prim.Native.Nat.{ℕ}
 use lib.Dec.{ltb}
 use lib.ListN.{length, get_or, get_or-map}
-use Rattle.mc_config.specs.Config.{mainOf}
-use Rattle.mc_config.specs.CaseLaws.{byPair-other}
-use Rattle.mc_config.specs.ConfigLaws.{main-other}
-use Rattle.mc_crosstalk.specs.Crosstalk.{T, listed, sourceRows, sourcesOf, sources0, sources1, sources2, sources3}
-use Rattle.mc_crosstalk.specs.CrosstalkLaws.{sources-count}
+use Rattle.mc_config.specs.Config.{main_of}
+use Rattle.mc_config.proofs.CaseLaws.{by_pair-other}
+use Rattle.mc_config.proofs.ConfigLaws.{main-other}
+use Rattle.mc_crosstalk.specs.Crosstalk.{T, listed, source_rows, sources_of, sources0, sources1, sources2, sources3}
+use Rattle.mc_crosstalk.proofs.CrosstalkLaws.{sources-count}
 use Rattle.mc_config.specs.Records.{padded}
-use Rattle.mc_crosstalk.specs.CrosstalkRecords.{sourcesRecord}
+use Rattle.mc_crosstalk.specs.CrosstalkRecords.{sources_record}
 use Rattle.mc_crosstalk.specs.declared.crosstalk.Sources.{Sources}
-use Rattle.mc_config.specs.CaseLaws.{rest-other}
+use Rattle.mc_config.proofs.CaseLaws.{rest-other}
 use Rattle.mc_crosstalk.proofs.crosstalk.dyn_cross_sources.Goals as goal
 
 -- what `sources_in` ensures of its result, at the rows of the pair
 In : ℕ → ℕ → Sources → Type 0
 In pair mode r =
-    (r.listed ≡ ltb mode (length (sourceRows pair)))
-    × (r.count ≡ cond (ltb mode (length (sourceRows pair))) (mainOf pair) 0)
-    × (r.sources ≡ get_or (map (padded 3 T) (sourceRows pair)) mode (padded 3 T []))
+    (r.listed ≡ ltb mode (length (source_rows pair)))
+    × (r.count ≡ cond (ltb mode (length (source_rows pair))) (main_of pair) 0)
+    × (r.sources ≡ get_or (map (padded 3 T) (source_rows pair)) mode (padded 3 T []))
 
-whole : (pair mode : ℕ) (r : Sources) → In pair mode r → r ≡ sourcesRecord pair mode
-unfolding In listed sourcesOf
+whole : (pair mode : ℕ) (r : Sources) → In pair mode r → r ≡ sources_record pair mode
+unfolding In listed sources_of
 whole pair mode r e =
     λ i.
     record {
       listed = e.0 i;
       count = (e.1 ∙ sym (sources-count pair mode)) i;
-      sources = (e.2 ∙ get_or-map (padded 3 T) (sourceRows pair) mode []) i;
+      sources = (e.2 ∙ get_or-map (padded 3 T) (source_rows pair) mode []) i;
     }
 
 pub returns-in-32 : goal.returns-in-32
@@ -61,4 +61,4 @@ unfolding In sources0
 returns-in_default c =
     let o = rest-other c.in_default.in_default-own.rest in
     whole c.args.pair c.args.mode c.sources_in-in_default.result
-    (rw (byPair-other sources3 sources2 sources1 sources2 sources1 sources0 o, main-other o) c.sources_in-in_default.ensures)
+    (rw (by_pair-other sources3 sources2 sources1 sources2 sources1 sources0 o, main-other o) c.sources_in-in_default.ensures)

@@ -5,7 +5,7 @@ use borrow.Author.Tests.{lt-ltb, le-ltb}
 use lib.ListN.{length, get_or-eq_default}
 use Rattle.mc_crosstalk.specs.Crosstalk.{T}
 use Rattle.mc_config.specs.Records.{padded}
-use Rattle.mc_config.specs.TableLaws.{get_d_default}
+use Rattle.mc_config.proofs.TableLaws.{get_d_default}
 use Rattle.mc_crosstalk.proofs.crosstalk.sources_in.Goals as goal
 
 pub returns-then-code-rows : goal.returns-then-code-rows

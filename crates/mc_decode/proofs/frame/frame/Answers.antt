@@ -1,20 +1,20 @@
 -- `mc_decode::frame` meets its contract.
 use mathlib.Core.Path.{ap}
 use mathlib.Core.Bool.{not}
-use Rattle.mc_state.specs.Answer.{buffersFrom}
-use Rattle.mc_decode.specs.FrameLaws.{after-lent, lfe-low, long, after-desk, after-values, surround-low, after-head, after-payload}
+use Rattle.mc_state.specs.Answer.{buffers_from}
+use Rattle.mc_decode.proofs.FrameLaws.{after-lent, lfe-low, long, after-desk, after-values, surround-low, after-head, after-payload}
 use Rattle.mc_decode.proofs.frame.frame.Goals as goal
 
 pub returns-then-not-lent_fits : goal.returns-then-not-lent_fits
 returns-then-not-lent_fits c =
     let a = c.args in
-    after-lent _ (buffersFrom a.raw.now a.work.now a.output.now a.lfe.now) a.state _ (c.lent_fits.ensures a.desk) (ap not c.if-not-lent_fits.true)
+    after-lent _ (buffers_from a.raw.now a.work.now a.output.now a.lfe.now) a.state _ (c.lent_fits.ensures a.desk) (ap not c.if-not-lent_fits.true)
 
 pub returns-then-desk-gt7 : goal.returns-then-desk-gt7
 returns-then-desk-gt7 c =
     let a = c.args in
     let lent = c.lent_fits.ensures a.desk in
-    after-desk _ (buffersFrom a.raw.now a.work.now a.output.now a.lfe.now) a.state _ lent (ap not c.if-not-lent_fits.false) c.if-desk-gt7.true
+    after-desk _ (buffers_from a.raw.now a.work.now a.output.now a.lfe.now) a.state _ lent (ap not c.if-not-lent_fits.false) c.if-desk-gt7.true
 
 pub returns-then-not-values_fit : goal.returns-then-not-values_fit
 returns-then-not-values_fit c =
@@ -22,12 +22,12 @@ returns-then-not-values_fit c =
     let lent = c.lent_fits.ensures a.desk in
     let fits = (ap not c.if-not-lent_fits.false) in
     let low = c.if-desk-gt7.false in
-    after-values _ (buffersFrom a.raw.now a.work.now a.output.now a.lfe.now) a.state _ lent fits low _ c.values_fit.ensures (ap not c.if-not-values_fit.true)
+    after-values _ (buffers_from a.raw.now a.work.now a.output.now a.lfe.now) a.state _ lent fits low _ c.values_fit.ensures (ap not c.if-not-values_fit.true)
 
 pub unpacked_frame-requires : goal.unpacked_frame-requires
 unpacked_frame-requires c =
     let a = c.args in
-    let w = buffersFrom a.raw.now a.work.now a.output.now a.lfe.now in
+    let w = buffers_from a.raw.now a.work.now a.output.now a.lfe.now in
     let lent = c.lent_fits.ensures a.desk in
     let fits = (ap not c.if-not-lent_fits.false) in
     let low = c.if-desk-gt7.false in
@@ -48,7 +48,7 @@ returns-in-Refused c =
     let values = c.values_fit.ensures in
     let within = (ap not c.if-not-values_fit.false) in
     let h = c.read_head-first in
-    after-head _ (buffersFrom a.raw.now a.work.now a.output.now a.lfe.now) a.state _ lent fits low _ values within h.result h.ensures.answer _ c.in-Refused.is
+    after-head _ (buffers_from a.raw.now a.work.now a.output.now a.lfe.now) a.state _ lent fits low _ values within h.result h.ensures.answer _ c.in-Refused.is
 
 pub returns-in-Accepted : goal.returns-in-Accepted
 returns-in-Accepted c =
@@ -59,4 +59,4 @@ returns-in-Accepted c =
     let values = c.values_fit.ensures in
     let within = (ap not c.if-not-values_fit.false) in
     let h = c.read_head-first in
-    after-payload _ (buffersFrom a.raw.now a.work.now a.output.now a.lfe.now) a.state _ lent fits low _ values within h.result h.ensures.answer _ c.in-Accepted.is _ c.unpacked_frame.ensures
+    after-payload _ (buffers_from a.raw.now a.work.now a.output.now a.lfe.now) a.state _ lent fits low _ values within h.result h.ensures.answer _ c.in-Accepted.is _ c.unpacked_frame.ensures

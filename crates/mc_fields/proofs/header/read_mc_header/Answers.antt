@@ -1,7 +1,7 @@
 -- `mc_fields::header::read_mc_header` meets its contract.
 use lib.Dec.{lit≤}
-use Rattle.cursor.specs.CursorLaws.{cur-fits}
-use Rattle.mc_fields.specs.FieldLaws.{bits-if-most, if-fits}
+use Rattle.cursor.proofs.CursorLaws.{cur-fits}
+use Rattle.mc_fields.proofs.FieldLaws.{bits-if-most, if-fits}
 use Rattle.mc_fields.proofs.HeaderWalk.{header-ran}
 use Rattle.mc_fields.proofs.header.read_mc_header.Goals as goal
 

@@ -2,7 +2,7 @@
 use mathlib.Core.Path.{sym}
 use Prim.Native.Nat.{◌-◌}
 use native.Mathlib.Omega.{arith}
-use Rattle.fill.specs.EachLaws.{each_none, each_left, each_on, each_all}
+use Rattle.fill.proofs.EachLaws.{each_none, each_left, each_on, each_all}
 use Rattle.mc_loan.proofs.loan.all_fit.Goals as goal
 
 pub loop-k-init : goal.loop-k-init

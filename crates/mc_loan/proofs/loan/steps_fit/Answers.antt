@@ -1,5 +1,5 @@
 -- `loan::steps_fit` meets its contract.
-use Rattle.mc_payload.specs.UnpackLaws.{steps-class}
+use Rattle.mc_payload.proofs.UnpackLaws.{steps-class}
 use Rattle.mc_loan.proofs.loan.steps_fit.Goals as goal
 
 pub returns-then-n-eq0 : goal.returns-then-n-eq0

@@ -2,7 +2,7 @@
 use mathlib.Core.Path.{refl}
 use Prim.Native.Nat.{◌-◌}
 use native.Mathlib.Omega.{arith}
-use Rattle.fill.specs.InOrder.{starts, more, ends-all}
+use Rattle.fill.proofs.InOrder.{starts, more, ends-all}
 use Rattle.mc_loan.proofs.loan.table_96.Goals as goal
 
 pub loop-k-init : goal.loop-k-init

@@ -1,7 +1,7 @@
 -- `loan::table_96` meets its contract.
 use Prim.Native.Nat.{ℕ, ◌-◌}
 use lib.ListN.{get_or}
-use Rattle.fill.specs.InOrder.{Filling}
+use Rattle.fill.proofs.InOrder.{Filling}
 use Rattle.mc_loan.proofs.loan.table_96.Given as goal
 
 abbrev pub invariant-loop-k : goal.invariant-loop-k

@@ -1,7 +1,7 @@
 -- `output::clear_beyond` meets its contract. The loop writes the places from the first beyond the layout on.
 use Prim.Native.Nat.{◌-◌}
 use native.Mathlib.Omega.{arith}
-use Rattle.mc_output.specs.Laws.LayOut.{clearing-starts, clearing-more, clearing-ends}
+use Rattle.mc_output.proofs.Laws.LayOut.{clearing-starts, clearing-more, clearing-ends}
 use Rattle.mc_output.proofs.output.clear_beyond.Goals as goal
 
 pub loop-k-init : goal.loop-k-init

@@ -3,8 +3,8 @@ use mathlib.Core.Path.{sym, ap, ◌∙◌}
 use mathlib.Core.List.{List}
 use lib.Ieee.{Float}
 use lib.ListN.{length}
-use Rattle.mc_output.specs.Code.OutputByMix.{withSecond, beyond}
-use Rattle.mc_output.specs.Laws.LayOut.{second-long, beyond-long}
+use Rattle.mc_output.specs.Code.OutputByMix.{with_second, beyond}
+use Rattle.mc_output.proofs.Laws.LayOut.{second-long, beyond-long}
 use Rattle.mc_output.proofs.output.lay_out.Goals as goal
 use Rattle.mc_output.proofs.output.lay_out.Goals.{then-x, else-x}
 
@@ -23,7 +23,7 @@ pub shape_of-output : goal.shape_of-output
 shape_of-output c = ap length c.clear_beyond.ensures ∙ (beyond-long _ _ ∙ sym c.requires.1)
 
 pub returns : goal.returns
-unfolding withSecond
+unfolding with_second
 returns c =
     let a = c.args in
     c.clear_beyond.ensures

@@ -1,7 +1,7 @@
 -- `output::store` meets its contract. The loop writes one place of each channel.
 use Prim.Native.Nat.{◌-◌}
 use borrow.Author.Tests.{lt-ltb, le-ltb}
-use Rattle.mc_scale.specs.Laws.Strided.{stride-starts, stride-more, stride-ends}
+use Rattle.mc_scale.proofs.Laws.Strided.{stride-starts, stride-more, stride-ends}
 use native.Mathlib.Omega.{arith}
 use Rattle.mc_output.proofs.output.store.Goals as goal
 use Rattle.mc_output.proofs.output.store.Goals.{then-ch-x, else-ch-x}

@@ -2,7 +2,7 @@
 use mathlib.Core.Path.{refl}
 use Prim.Native.Nat.{◌-◌}
 use native.Mathlib.Omega.{arith}
-use Rattle.mc_scale.specs.Laws.Strided.{stride-starts, stride-more, stride-ends}
+use Rattle.mc_scale.proofs.Laws.Strided.{stride-starts, stride-more, stride-ends}
 use Rattle.mc_output.proofs.output.store_five.Goals as goal
 
 pub loop-ch-init : goal.loop-ch-init

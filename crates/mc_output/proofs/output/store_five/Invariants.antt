@@ -2,7 +2,7 @@
 use Prim.Native.Nat.{ℕ, ◌-◌}
 use lib.Ieee.{nan}
 use lib.ListN.{get_or}
-use Rattle.mc_scale.specs.Laws.Strided.{Striding}
+use Rattle.mc_scale.proofs.Laws.Strided.{Striding}
 use Rattle.mc_output.proofs.output.store_five.Given as goal
 
 abbrev pub invariant-loop-ch : goal.invariant-loop-ch

@@ -1,11 +1,11 @@
 -- `output::write_base` meets its contract. The loop writes all channels of one slot and subband a turn.
 use mathlib.Core.Path.{◌∙◌}
 use Prim.Native.Nat.{◌-◌}
-use Rattle.fill.specs.TabLaws.{all-filled}
-use Rattle.fill.specs.ByTurn.{turn-starts, turn-ends}
-use Rattle.mc_output.specs.Code.OutputByMix.{baseAlone}
-use Rattle.mc_output.specs.Laws.OutputByMix.{turn-across}
-use Rattle.mc_output.specs.Laws.BaseAlone.{base-value}
+use Rattle.fill.proofs.TabLaws.{all-filled}
+use Rattle.fill.proofs.ByTurn.{turn-starts, turn-ends}
+use Rattle.mc_output.specs.Code.OutputByMix.{base_alone}
+use Rattle.mc_output.proofs.Laws.OutputByMix.{turn-across}
+use Rattle.mc_output.proofs.Laws.BaseAlone.{base-value}
 use native.Mathlib.Omega.{arith}
 use Rattle.mc_output.proofs.output.write_base.Goals as goal
 
@@ -26,5 +26,5 @@ pub shape_of-output : goal.shape_of-output
 shape_of-output c = c.loop-j.invariant.1.long
 
 pub returns : goal.returns
-unfolding baseAlone
+unfolding base_alone
 returns c = turn-ends c.loop-j.invariant.1 (λ k h. omega arith) ∙ all-filled _ 5760 c.args.output.now c.requires.2

@@ -1,10 +1,10 @@
 -- `output::write_mixed` meets its contract. The loop writes all channels of one slot and subband a turn.
 use mathlib.Core.Path.{◌∙◌}
 use Prim.Native.Nat.{◌-◌}
-use Rattle.fill.specs.TabLaws.{all-filled}
-use Rattle.fill.specs.ByTurn.{turn-starts, turn-ends}
-use Rattle.mc_output.specs.Code.OutputByMix.{mixedOf}
-use Rattle.mc_output.specs.Laws.OutputByMix.{turn-across, mixed-value}
+use Rattle.fill.proofs.TabLaws.{all-filled}
+use Rattle.fill.proofs.ByTurn.{turn-starts, turn-ends}
+use Rattle.mc_output.specs.Code.OutputByMix.{mixed_of}
+use Rattle.mc_output.proofs.Laws.OutputByMix.{turn-across, mixed-value}
 use native.Mathlib.Omega.{arith}
 use Rattle.mc_output.proofs.output.write_mixed.Goals as goal
 
@@ -28,5 +28,5 @@ pub shape_of-output : goal.shape_of-output
 shape_of-output c = c.loop-j.invariant.1.long
 
 pub returns : goal.returns
-unfolding mixedOf
+unfolding mixed_of
 returns c = turn-ends c.loop-j.invariant.1 (λ k h. omega arith) ∙ all-filled _ 5760 c.args.output.now c.requires.3

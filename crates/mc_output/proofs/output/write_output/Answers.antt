@@ -2,13 +2,13 @@
 use mathlib.Core.Path.{◌∙◌, ap}
 use lib.Dec.{eqb}
 use lib.ListN.{length}
-use Rattle.mc_base.specs.Base.{scaledBase}
-use Rattle.mc_predict.specs.Laws.Chosen.{chosen-long}
-use Rattle.mc_config.specs.ConfigLaws.{layout-length}
+use Rattle.mc_base.specs.Base.{scaled_base}
+use Rattle.mc_predict.proofs.Laws.Chosen.{chosen-long}
+use Rattle.mc_config.proofs.ConfigLaws.{layout-length}
 use Rattle.mc_payload.specs.Places.{config}
-use Rattle.mc_output.specs.Laws.LayOut.{mixed-all, laid_out}
-use Rattle.mc_output.specs.Laws.OutputByMix.{second_fits, output-written}
-use Rattle.mc_output.specs.Laws.BaseAlone.{alone-written}
+use Rattle.mc_output.proofs.Laws.LayOut.{mixed-all, laid_out}
+use Rattle.mc_output.proofs.Laws.OutputByMix.{second_fits, output-written}
+use Rattle.mc_output.proofs.Laws.BaseAlone.{alone-written}
 use Rattle.mc_output.proofs.output.write_output.Goals as goal
 
 pub write_base-requires : goal.write_base-requires
@@ -21,7 +21,7 @@ write_base-requires c =
 pub returns-then-x : goal.returns-then-x
 returns-then-x c =
     let a = c.args in
-    alone-written a.s (scaledBase a.left.now a.right.now) a.work.now c.mix_of-x.ensures c.if-x.true c.second_base-second.ensures c.write_base.ensures
+    alone-written a.s (scaled_base a.left.now a.right.now) a.work.now c.mix_of-x.ensures c.if-x.true c.second_base-second.ensures c.write_base.ensures
 
 pub write_mixed-requires : goal.write_mixed-requires
 write_mixed-requires c =
@@ -43,5 +43,5 @@ returns c =
     let second = c.second_base-second in
     let tcs = c.tcs_of-tcs in
     let mixed = c.write_mixed in
-    output-written a.s (scaledBase a.left.now a.right.now) a.work.now x.ensures tcs.ensures second.ensures
+    output-written a.s (scaled_base a.left.now a.right.now) a.work.now x.ensures tcs.ensures second.ensures
     (c.lay_out.ensures ∙ rw mixed.ensures (laid_out x.result tcs.result a.left.now _ a.work.now (rw x.ensures (second_fits a.s))))

@@ -1,8 +1,8 @@
 -- `output::write_second` meets its contract. The loop writes the last two channels, place by place.
 use Prim.Native.Nat.{◌-◌}
 use native.Mathlib.Omega.{arith}
-use Rattle.mc_output.specs.Code.OutputByMix.{withSecond}
-use Rattle.mc_output.specs.Laws.LayOut.{laying-starts, laying-more, laying-skip, laying-ends}
+use Rattle.mc_output.specs.Code.OutputByMix.{with_second}
+use Rattle.mc_output.proofs.Laws.LayOut.{laying-starts, laying-more, laying-skip, laying-ends}
 use Rattle.mc_output.proofs.output.write_second.Goals as goal
 use Rattle.mc_output.proofs.output.write_second.Goals.{then-i-limit, else-i-limit}
 
@@ -24,7 +24,7 @@ pub shape_of-output : goal.shape_of-output
 shape_of-output c = c.loop-i.invariant.2.long
 
 pub returns : goal.returns
-unfolding withSecond
+unfolding with_second
 returns c =
     let l = c.loop-i in
     let a = c.args in

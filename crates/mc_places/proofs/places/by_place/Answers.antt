@@ -2,7 +2,7 @@
 use mathlib.Core.Path.{refl}
 use Prim.Native.Nat.{◌-◌}
 use native.Mathlib.Omega.{arith}
-use Rattle.fill.specs.InOrder.{starts, more, ends-all}
+use Rattle.fill.proofs.InOrder.{starts, more, ends-all}
 use Rattle.mc_places.specs.PlacesBy.{places_by}
 use Rattle.mc_places.proofs.PlacesBuilt.{group-small, group-place, steps-place, own-place}
 use Rattle.mc_places.proofs.places.by_place.Goals as goal

@@ -2,9 +2,9 @@
 use mathlib.Core.Path.{refl}
 use Prim.Native.Nat.{◌-◌}
 use native.Mathlib.Omega.{arith}
-use Rattle.fill.specs.InOrder.{starts, more, ends-all}
+use Rattle.fill.proofs.InOrder.{starts, more, ends-all}
 use Rattle.mc_roles.specs.Roles.{base_of}
-use Rattle.mc_places.specs.PlacesBy.{groupBases}
+use Rattle.mc_places.specs.PlacesBy.{group_bases}
 use Rattle.mc_places.proofs.PlacesBuilt.{base-fits}
 use Rattle.mc_places.proofs.places.group_bases.Goals as goal
 
@@ -18,5 +18,5 @@ pub loop-k-preserved : goal.loop-k-preserved
 loop-k-preserved c = more c.loop-k.invariant (omega arith) c.base_of.ensures
 
 pub returns : goal.returns
-unfolding groupBases
+unfolding group_bases
 returns c = ends-all c.loop-k.invariant (omega arith) refl

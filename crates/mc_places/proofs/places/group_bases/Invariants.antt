@@ -1,7 +1,7 @@
 -- `places::group_bases` meets its contract.
 use Prim.Native.Nat.{◌-◌, ◌/◌, ◌%◌}
 use lib.ListN.{get_or}
-use Rattle.fill.specs.InOrder.{Filling}
+use Rattle.fill.proofs.InOrder.{Filling}
 use Rattle.mc_roles.specs.Roles.{base_of}
 use Rattle.mc_places.proofs.places.group_bases.Given as goal
 

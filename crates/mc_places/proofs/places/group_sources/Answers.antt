@@ -3,8 +3,8 @@ use mathlib.Core.Path.{refl}
 use Prim.Native.Nat.{◌-◌}
 use native.Mathlib.Omega.{arith}
 use borrow.Author.Rules.{rules}
-use Rattle.fill.specs.InOrder.{starts, more, ends-all}
-use Rattle.mc_places.specs.PlacesBy.{groupSources}
+use Rattle.fill.proofs.InOrder.{starts, more, ends-all}
+use Rattle.mc_places.specs.PlacesBy.{group_sources}
 use Rattle.mc_places.proofs.places.group_sources.Goals as goal
 
 pub loop-k-init : goal.loop-k-init
@@ -17,5 +17,5 @@ pub loop-k-preserved : goal.loop-k-preserved
 loop-k-preserved c = more c.loop-k.invariant (omega arith) c.source_by.ensures
 
 pub returns : goal.returns
-unfolding groupSources
+unfolding group_sources
 returns c = ends-all c.loop-k.invariant (omega arith) refl

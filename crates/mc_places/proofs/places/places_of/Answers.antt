@@ -1,5 +1,5 @@
 -- `places::places_of` meets its contract.
-use Rattle.mc_places.specs.PlacesLaws.{places-whole}
+use Rattle.mc_places.proofs.PlacesLaws.{places-whole}
 use Rattle.mc_places.proofs.PlacesBuilt.{main-pair, sources-small, bases-small}
 use Rattle.mc_places.proofs.places.places_of.Goals as goal
 

@@ -3,8 +3,8 @@ use mathlib.Core.Path.{◌∙◌, ap}
 use borrow.Author.Tests.{ne_eqb}
 use lib.ListN.{get_or}
 use Rattle.mc_config.specs.Config.{left}
-use Rattle.mc_config.specs.RecordsLaws.{padded-at}
-use Rattle.mc_roles.specs.Roles.{tcRolesOf, base_of}
+use Rattle.mc_config.proofs.RecordsLaws.{padded-at}
+use Rattle.mc_roles.specs.Roles.{tc_roles_of, base_of}
 use Rattle.mc_roles.specs.declared.roles.Roles.{Roles}
 use Rattle.mc_roles.proofs.roles.base_of.Goals as goal
 
@@ -16,5 +16,5 @@ pub returns : goal.returns
 unfolding base_of
 returns c =
     let a = c.args in
-    let role = c.role.ensures ∙ ap (λ (r : Roles). get_or r.roles a.m left) c.tc_roles.ensures ∙ padded-at 3 left (tcRolesOf a.pair a.tc) a.m in
+    let role = c.role.ensures ∙ ap (λ (r : Roles). get_or r.roles a.m left) c.tc_roles.ensures ∙ padded-at 3 left (tc_roles_of a.pair a.tc) a.m in
     rw (ne_eqb _ 1 c.if-base_channels-eq1.false) (rw role at c.fallback_base_channel.ensures)

@@ -4,19 +4,19 @@ use mathlib.Core.List.{map}
 use Prim.Native.Nat.{ℕ, ◌<◌}
 use lib.Dec.{lit<}
 use lib.ListN.{length}
-use Rattle.mc_config.specs.CaseLaws.{other}
-use Rattle.mc_config.specs.Config.{mainOf, left}
+use Rattle.mc_config.proofs.CaseLaws.{other}
+use Rattle.mc_config.specs.Config.{main_of, left}
 use Rattle.mc_config.specs.Records.{padded}
-use Rattle.mc_roles.specs.RolesRecord.{rolesRecord}
-use Rattle.mc_roles.specs.Roles.{row_at, roleRows, tcRolesOf, roles21, roles22, roles30, roles31, roles32}
-use Rattle.mc_roles.specs.RolesLaws.{row-padded, roles-length, roles-other}
+use Rattle.mc_roles.specs.RolesRecord.{roles_record}
+use Rattle.mc_roles.specs.Roles.{row_at, role_rows, tc_roles_of, roles21, roles22, roles30, roles31, roles32}
+use Rattle.mc_roles.proofs.RolesLaws.{row-padded, roles-length, roles-other}
 use Rattle.mc_roles.specs.declared.roles.Roles.{Roles}
 use Rattle.mc_roles.proofs.roles.tc_roles.Goals as goal
 
 -- a row of the pair's table, with fillers, and the number of main channels
-whole : (pair tc : ℕ) {r : Roles} → 0 < length (roleRows pair) → (r.count ≡ mainOf pair) × (r.roles ≡ row_at (map (padded 3 left) (roleRows pair)) tc) → r ≡ rolesRecord pair tc
-unfolding tcRolesOf
-whole pair tc some e = λ i. record { count = (e.0 ∙ sym (roles-length pair tc)) i; roles = (e.1 ∙ row-padded 3 left (roleRows pair) tc some) i }
+whole : (pair tc : ℕ) {r : Roles} → 0 < length (role_rows pair) → (r.count ≡ main_of pair) × (r.roles ≡ row_at (map (padded 3 left) (role_rows pair)) tc) → r ≡ roles_record pair tc
+unfolding tc_roles_of
+whole pair tc some e = λ i. record { count = (e.0 ∙ sym (roles-length pair tc)) i; roles = (e.1 ∙ row-padded 3 left (role_rows pair) tc some) i }
 
 pub returns-in-32 : goal.returns-in-32
 unfolding roles32

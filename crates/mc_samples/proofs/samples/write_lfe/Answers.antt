@@ -1,8 +1,8 @@
 -- `samples::write_lfe` meets its contract.
 use Prim.Native.Nat.{◌-◌}
 use native.Mathlib.Omega.{arith}
-use Rattle.fill.specs.InOrder.{starts, more, ends-all}
-use Rattle.mc_values.specs.Values.{lfeFrom}
+use Rattle.fill.proofs.InOrder.{starts, more, ends-all}
+use Rattle.mc_values.specs.Values.{lfe_from}
 use Rattle.mc_samples.proofs.samples.write_lfe.Goals as goal
 
 pub loop-gr-init : goal.loop-gr-init
@@ -18,5 +18,5 @@ pub shape_of-out : goal.shape_of-out
 shape_of-out c = c.loop-gr.invariant.long
 
 pub returns : goal.returns
-unfolding lfeFrom
+unfolding lfe_from
 returns c = ends-all c.loop-gr.invariant (omega arith) c.requires.lfe_bound.2

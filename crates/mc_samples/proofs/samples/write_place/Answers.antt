@@ -3,7 +3,7 @@ use mathlib.Core.Path.{◌≡◌, sym, ◌∙◌}
 use Prim.Native.Nat.{◌-◌, ◌*◌}
 use native.Mathlib.Omega.{arith}
 use lib.ListN.{length-set}
-use Rattle.mc_values.specs.ValuesLaws.{values-fit, spread_none}
+use Rattle.mc_values.proofs.ValuesLaws.{values-fit, spread_none}
 use Rattle.mc_samples.proofs.SamplesWritten.{index-small, class-found, place-next}
 use Rattle.mc_samples.proofs.samples.write_place.Goals as goal
 

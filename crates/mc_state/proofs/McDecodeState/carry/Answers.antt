@@ -1,5 +1,5 @@
 -- `mc_state::McDecodeState::carry` meets its contract.
-use Rattle.mc_state.specs.CarryLaws.{carry-refused, carry-taken}
+use Rattle.mc_state.proofs.CarryLaws.{carry-refused, carry-taken}
 use Rattle.mc_state.proofs.McDecodeState.carry.Reads as reads
 use Rattle.mc_state.proofs.McDecodeState.carry.Lts as lts
 use Rattle.mc_state.proofs.held.held_fits.Reads as held-fits-reads

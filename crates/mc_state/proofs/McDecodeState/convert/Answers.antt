@@ -1,6 +1,6 @@
 -- `mc_state::McDecodeState::convert` meets its contract.
 use Rattle.std.proofs.Common.{ap, not}
-use Rattle.mc_state.specs.CarryLaws.{convert-refused, history-long, convert-taken}
+use Rattle.mc_state.proofs.CarryLaws.{convert-refused, history-long, convert-taken}
 use Rattle.mc_state.proofs.McDecodeState.convert.Goals as goal
 
 pub returns-then-not-long-held : goal.returns-then-not-long-held

@@ -2,8 +2,8 @@
 use mathlib.Core.Path.{refl, ◌∙◌}
 use Prim.Native.Nat.{◌-◌}
 use native.Mathlib.Omega.{arith}
-use Rattle.fill.specs.InOrder.{starts, more, ends-all}
-use Rattle.mc_state.specs.CarryLaws.{tab-list}
+use Rattle.fill.proofs.InOrder.{starts, more, ends-all}
+use Rattle.mc_state.proofs.CarryLaws.{tab-list}
 use Rattle.mc_state.proofs.convert.history_of.Goals as goal
 
 pub loop-k-init : goal.loop-k-init

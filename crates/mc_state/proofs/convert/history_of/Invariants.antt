@@ -2,7 +2,7 @@
 use Prim.Native.Nat.{ℕ, ◌-◌}
 use lib.Ieee.{nan}
 use lib.ListN.{get_or}
-use Rattle.fill.specs.InOrder.{Filling}
+use Rattle.fill.proofs.InOrder.{Filling}
 use Rattle.mc_state.proofs.convert.history_of.Given as goal
 
 abbrev pub invariant-loop-k : goal.invariant-loop-k

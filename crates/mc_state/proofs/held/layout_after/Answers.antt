@@ -1,5 +1,5 @@
 -- `mc_state::layout_after` meets its contract.
-use Rattle.mc_state.specs.HeldLaws.{after-second, after_first}
+use Rattle.mc_state.proofs.HeldLaws.{after-second, after_first}
 use Rattle.mc_state.proofs.held.layout_after.Reads as reads
 use Rattle.mc_state.proofs.held.layout_after.Lts as lts
 use Rattle.mc_state.proofs.held.layout_after.Goals as goal

@@ -1,5 +1,5 @@
 -- `mc_state::layout_follows` meets its contract.
-use Rattle.mc_state.specs.HeldLaws.{follows-none, follows-known, follows-counts}
+use Rattle.mc_state.proofs.HeldLaws.{follows-none, follows-known, follows-counts}
 use Rattle.mc_state.proofs.held.layout_follows.Reads as reads
 use Rattle.mc_state.proofs.held.layout_follows.Lts as lts
 use Rattle.mc_state.proofs.held.layout_follows.Goals as goal

@@ -2,13 +2,13 @@
 use Prim.Native.Nat.{◌-◌}
 use native.Mathlib.Omega.{arith}
 use borrow.Author.Rules.{rules}
-use Rattle.cursor.specs.CursorLaws.{cur-fits}
-use Rattle.mc_fields.specs.Head.{dynCross}
+use Rattle.cursor.proofs.CursorLaws.{cur-fits}
+use Rattle.mc_fields.specs.Head.{dyn_cross}
 use Rattle.mc_status.proofs.StatusWalk.{cross-next, cross-ran}
 use Rattle.mc_status.proofs.status.read_dyn_cross.Goals as goal
 
 pub loop-g-init : goal.loop-g-init
-unfolding dynCross
+unfolding dyn_cross
 loop-g-init c = search rules
 
 pub overflow_cast-table : goal.overflow_cast-table

@@ -4,7 +4,7 @@ use native.Mathlib.Omega.{arith}
 use borrow.Author.Rules.{rules}
 use lib.Dec.{lit≤}
 use Rattle.mc_fields.specs.Head.{prediction}
-use Rattle.mc_fields.specs.FieldLaws.{bits-if-most, if-fits}
+use Rattle.mc_fields.proofs.FieldLaws.{bits-if-most, if-fits}
 use Rattle.mc_status.proofs.StatusWalk.{predictors-if-most, prediction-next, prediction-ran}
 use Rattle.mc_status.proofs.status.read_prediction.Goals as goal
 

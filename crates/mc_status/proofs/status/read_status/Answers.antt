@@ -1,6 +1,6 @@
 -- `mc_status::status::read_status` meets its contract.
 use lib.Dec.{lit≤}
-use Rattle.mc_fields.specs.FieldLaws.{bits-if-most}
+use Rattle.mc_fields.proofs.FieldLaws.{bits-if-most}
 use Rattle.mc_status.proofs.StatusWalk.{status-read}
 use Rattle.mc_status.proofs.status.read_status.Goals as goal
 

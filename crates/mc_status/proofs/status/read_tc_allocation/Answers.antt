@@ -1,7 +1,7 @@
 -- `mc_status::status::read_tc_allocation` meets its contract.
 use Prim.Native.Nat.{◌-◌}
 use native.Mathlib.Omega.{arith}
-use Rattle.cursor.specs.CursorLaws.{cur-fits}
+use Rattle.cursor.proofs.CursorLaws.{cur-fits}
 use Rattle.mc_status.proofs.StatusWalk.{tc-once, tc-each, tc-next}
 use Rattle.mc_status.proofs.status.read_tc_allocation.Goals as goal
 

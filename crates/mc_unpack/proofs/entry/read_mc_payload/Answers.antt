@@ -1,6 +1,6 @@
 -- `entry::read_mc_payload` meets its contract.
 use borrow.Author.Rules.{rules}
-use Rattle.mc_unpack.specs.SettledLaws.{own-table, settled-refused, settled-read}
+use Rattle.mc_unpack.proofs.SettledLaws.{own-table, settled-refused, settled-read}
 use Rattle.mc_unpack.proofs.entry.read_mc_payload.Goals as goal
 
 pub allocations_fit-requires : goal.allocations_fit-requires

@@ -2,8 +2,8 @@
 use mathlib.Core.Path.{refl}
 use Prim.Native.Nat.{◌-◌}
 use native.Mathlib.Omega.{arith}
-use Rattle.fill.specs.InOrder.{starts, more, ends-all}
-use Rattle.mc_values.specs.Values.{delaysFrom}
+use Rattle.fill.proofs.InOrder.{starts, more, ends-all}
+use Rattle.mc_values.specs.Values.{delays_from}
 use Rattle.mc_values.proofs.values.delays.Goals as goal
 
 pub loop-g-init : goal.loop-g-init
@@ -13,5 +13,5 @@ pub loop-g-preserved : goal.loop-g-preserved
 loop-g-preserved c = more c.loop-g.invariant (omega arith) c.group_delays-row.ensures
 
 pub returns : goal.returns
-unfolding delaysFrom
+unfolding delays_from
 returns c = ends-all c.loop-g.invariant (omega arith) refl

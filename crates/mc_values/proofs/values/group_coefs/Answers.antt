@@ -2,8 +2,8 @@
 use mathlib.Core.Path.{refl}
 use Prim.Native.Nat.{◌-◌}
 use native.Mathlib.Omega.{arith}
-use Rattle.fill.specs.InOrder.{starts, more, ends-all}
-use Rattle.mc_values.specs.Values.{coefsIn}
+use Rattle.fill.proofs.InOrder.{starts, more, ends-all}
+use Rattle.mc_values.specs.Values.{coefs_in}
 use Rattle.mc_values.proofs.values.group_coefs.Goals as goal
 
 pub loop-px-init : goal.loop-px-init
@@ -13,5 +13,5 @@ pub loop-px-preserved : goal.loop-px-preserved
 loop-px-preserved c = more c.loop-px.invariant (omega arith) c.predictor_coefs-row.ensures
 
 pub returns : goal.returns
-unfolding coefsIn
+unfolding coefs_in
 returns c = ends-all c.loop-px.invariant (omega arith) refl

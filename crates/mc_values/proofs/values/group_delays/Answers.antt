@@ -2,8 +2,8 @@
 use mathlib.Core.Path.{refl}
 use Prim.Native.Nat.{◌-◌}
 use native.Mathlib.Omega.{arith}
-use Rattle.fill.specs.InOrder.{starts, more, ends-all}
-use Rattle.mc_values.specs.Values.{delaysIn}
+use Rattle.fill.proofs.InOrder.{starts, more, ends-all}
+use Rattle.mc_values.specs.Values.{delays_in}
 use Rattle.mc_values.proofs.values.group_delays.Goals as goal
 
 pub loop-px-init : goal.loop-px-init
@@ -13,5 +13,5 @@ pub loop-px-preserved : goal.loop-px-preserved
 loop-px-preserved c = more c.loop-px.invariant (omega arith) refl
 
 pub returns : goal.returns
-unfolding delaysIn
+unfolding delays_in
 returns c = ends-all c.loop-px.invariant (omega arith) refl

@@ -1,7 +1,7 @@
 -- `values::group_delays` meets its contract.
 use Prim.Native.Nat.{◌-◌, ◌+◌, ◌*◌}
 use lib.ListN.{get_or}
-use Rattle.fill.specs.InOrder.{Filling}
+use Rattle.fill.proofs.InOrder.{Filling}
 use Rattle.mc_values.proofs.values.group_delays.Given as goal
 
 abbrev pub invariant-loop-px : goal.invariant-loop-px

@@ -1,5 +1,5 @@
 -- `mcread::input::before_frame` meets its contract.
-use Rattle.mcread.specs.StepLaws.{before-kept, before-carried}
+use Rattle.mcread.proofs.StepLaws.{before-kept, before-carried}
 use Rattle.mcread.proofs.input.before_frame.Goals as goal
 
 pub returns-then-n-ne1 : goal.returns-then-n-ne1

@@ -1,5 +1,5 @@
 -- `part_tables::tables::pack_tables` meets its contract.
-use Rattle.part_tables.specs.PayloadLaws.{packs-accepted, packs-refused}
+use Rattle.part_tables.proofs.PayloadLaws.{packs-accepted, packs-refused}
 use Rattle.part_tables.proofs.pack.pack_tables.Goals as goal
 
 pub returns-in-Accepted : goal.returns-in-Accepted

@@ -2,8 +2,8 @@
 use mathlib.Core.Path.{refl, ◌∙◌}
 use Prim.Native.Nat.{◌-◌}
 use native.Mathlib.Omega.{arith}
-use Rattle.fill.specs.InOrder.{starts, more, ends-all}
-use Rattle.part_tables.specs.Payload.{flatCoefs}
+use Rattle.fill.proofs.InOrder.{starts, more, ends-all}
+use Rattle.part_tables.specs.Payload.{flat_coefs}
 use Rattle.part_tables.proofs.pack.write_coefs.Goals as goal
 
 pub loop-k-init : goal.loop-k-init
@@ -16,5 +16,5 @@ pub shape_of-out : goal.shape_of-out
 shape_of-out c = c.loop-k.invariant.long
 
 pub returns : goal.returns
-unfolding flatCoefs
+unfolding flat_coefs
 returns c = ends-all c.loop-k.invariant (omega arith) c.requires ∙ rw c.coefs-coefs.ensures

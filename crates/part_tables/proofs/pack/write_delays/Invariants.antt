@@ -1,7 +1,7 @@
 -- `part_tables::tables::write_delays` meets its contract.
 use mathlib.Core.List.{[]}
 use Prim.Native.Nat.{ℕ, ◌-◌, ◌/◌, ◌%◌}
-use Rattle.fill.specs.InOrder.{Filling}
+use Rattle.fill.proofs.InOrder.{Filling}
 use lib.ListN.{get_or}
 use Rattle.part_tables.proofs.pack.write_delays.Given as goal
 

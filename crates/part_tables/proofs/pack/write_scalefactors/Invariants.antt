@@ -1,6 +1,6 @@
 -- `part_tables::tables::write_scalefactors` meets its contract.
 use Prim.Native.Nat.{ℕ, ◌-◌}
-use Rattle.fill.specs.InOrder.{Filling}
+use Rattle.fill.proofs.InOrder.{Filling}
 use lib.ListN.{get_or}
 use Rattle.part_tables.proofs.pack.write_scalefactors.Given as goal
 

@@ -1,5 +1,5 @@
 -- `part_tables::tables::write_tables` meets its contract.
-use Rattle.part_tables.specs.PayloadLaws.{writes-accepted, writes-refused}
+use Rattle.part_tables.proofs.PayloadLaws.{writes-accepted, writes-refused}
 use Rattle.part_tables.proofs.pack.write_tables.Goals as goal
 
 pub returns-in-Accepted : goal.returns-in-Accepted

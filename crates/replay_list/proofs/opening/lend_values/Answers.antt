@@ -1,5 +1,5 @@
 -- `replay_list::opening::lend_values` meets its contract.
-use Rattle.replay_list.specs.OpeningLaws.{values-lent}
+use Rattle.replay_list.proofs.OpeningLaws.{values-lent}
 use Rattle.replay_list.proofs.opening.lend_values.Goals as goal
 
 pub returns : goal.returns

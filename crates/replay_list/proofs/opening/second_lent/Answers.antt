@@ -1,6 +1,6 @@
 -- `replay_list::opening::second_lent` meets its contract.
 use Rattle.std.proofs.Common.{arith}
-use Rattle.replay_list.specs.OpeningLaws.{second-all, second_none}
+use Rattle.replay_list.proofs.OpeningLaws.{second-all, second_none}
 use Rattle.replay_list.proofs.opening.second_lent.Goals as goal
 
 pub returns-then-byte_at-eq1 : goal.returns-then-byte_at-eq1

@@ -1,5 +1,5 @@
 -- `replay_list::opening::start` meets its contract.
-use Rattle.replay_list.specs.OpeningLaws.{start-goes-on, start-anew}
+use Rattle.replay_list.proofs.OpeningLaws.{start-goes-on, start-anew}
 use Rattle.replay_list.proofs.opening.start.Goals as goal
 
 pub returns-then-byte_at-ne1 : goal.returns-then-byte_at-ne1

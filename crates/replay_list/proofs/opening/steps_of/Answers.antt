@@ -1,5 +1,5 @@
 -- `replay_list::opening::steps_of` meets its contract.
-use Rattle.replay_list.specs.OpeningLaws.{steps-known, steps-unknown}
+use Rattle.replay_list.proofs.OpeningLaws.{steps-known, steps-unknown}
 use Rattle.replay_list.proofs.opening.steps_of.Goals as goal
 
 pub returns-then-k-lt18 : goal.returns-then-k-lt18

@@ -1,5 +1,5 @@
 -- `replay_list::outcome::pack` meets its contract.
-use Rattle.mc_state.specs.PackLaws.{packs-accepted, packs-refused}
+use Rattle.mc_state.proofs.PackLaws.{packs-accepted, packs-refused}
 use Rattle.replay_list.proofs.outcome.pack.Goals as goal
 
 pub returns-in-Accepted : goal.returns-in-Accepted

@@ -1,5 +1,5 @@
 -- `replay_list::tally::tallied` meets its contract.
-use Rattle.replay_list.specs.OutcomeLaws.{flag-byte}
+use Rattle.replay_list.proofs.OutcomeLaws.{flag-byte}
 use Rattle.replay_list.proofs.tally.tallied.Goals as goal
 
 pub returns : goal.returns

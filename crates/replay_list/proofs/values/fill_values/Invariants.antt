@@ -1,6 +1,6 @@
 -- `replay_list::values::fill_values` meets its contract. The loop draws in order.
 use Rattle.std.proofs.Common.{◌-◌, length}
-use Rattle.replay_list.specs.ValuesLaws.{Drawing}
+use Rattle.replay_list.proofs.ValuesLaws.{Drawing}
 use Rattle.replay_list.proofs.values.fill_values.Given as goal
 
 abbrev pub invariant-loop-k : goal.invariant-loop-k

@@ -1,5 +1,5 @@
 -- `replay_list::values::fraction` meets its contract.
-use Rattle.replay_list.specs.ValuesLaws.{two-to-20}
+use Rattle.replay_list.proofs.ValuesLaws.{two-to-20}
 use Rattle.replay_list.proofs.values.fraction.Goals as goal
 
 pub returns : goal.returns

@@ -1,5 +1,5 @@
 -- `replay_list::values::magnitude` meets its contract.
-use Rattle.replay_list.specs.ValuesLaws.{magnitude-zero, magnitude-bound, magnitude-any}
+use Rattle.replay_list.proofs.ValuesLaws.{magnitude-zero, magnitude-bound, magnitude-any}
 use Rattle.replay_list.proofs.values.magnitude.Goals as goal
 
 pub returns-then-x-eq0 : goal.returns-then-x-eq0

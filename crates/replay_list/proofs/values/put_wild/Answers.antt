@@ -1,5 +1,5 @@
 -- `replay_list::values::put_wild` meets its contract.
-use Rattle.replay_list.specs.ValuesLaws.{wild-none, wild-before, wild-past, wild-put}
+use Rattle.replay_list.proofs.ValuesLaws.{wild-none, wild-before, wild-past, wild-put}
 use Rattle.replay_list.proofs.values.put_wild.Goals as goal
 
 pub returns-then-kind-eq0 : goal.returns-then-kind-eq0

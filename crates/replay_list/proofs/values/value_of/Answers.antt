@@ -1,5 +1,5 @@
 -- `replay_list::values::value_of` meets its contract.
-use Rattle.replay_list.specs.ValuesLaws.{value-negative, value-positive}
+use Rattle.replay_list.proofs.ValuesLaws.{value-negative, value-positive}
 use Rattle.replay_list.proofs.values.value_of.Goals as goal
 
 pub returns-then-x-eq1 : goal.returns-then-x-eq1

@@ -1,6 +1,6 @@
 -- `boundary_run::string::Bits::field` meets its contract.
 use native.Mathlib.Omega.{arith}
-use Rattle.boundary_run.specs.StringLaws.{field-passes, field_fits}
+use Rattle.boundary_run.proofs.StringLaws.{field-passes, field_fits}
 use Rattle.boundary_run.proofs.string.Bits.field.Goals as goal
 
 pub returns-then-at-gt232 : goal.returns-then-at-gt232

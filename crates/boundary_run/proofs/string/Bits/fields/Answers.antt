@@ -3,7 +3,7 @@ use Prim.Native.Nat.{ℕ, ◌-◌}
 use mathlib.Core.Path.{◌≡◌, refl, ap, ◌∙◌}
 use native.Mathlib.Omega.{arith}
 use Rattle.boundary_run.specs.String.{fields_of}
-use Rattle.boundary_run.specs.StringLaws.{fields-more}
+use Rattle.boundary_run.proofs.StringLaws.{fields-more}
 use Rattle.boundary_run.proofs.string.Bits.fields.Goals as goal
 
 pub loop-k-init : goal.loop-k-init

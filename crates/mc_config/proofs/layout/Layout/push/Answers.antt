@@ -4,7 +4,7 @@ use mathlib.Core.List.{[], ◌∷◌}
 use Prim.Native.Nat.{◌<◌}
 use lib.ListN.{length, length-append}
 use Rattle.mc_config.specs.Config.{left}
-use Rattle.mc_config.specs.RecordsLaws.{padded-push}
+use Rattle.mc_config.proofs.RecordsLaws.{padded-push}
 use Rattle.mc_config.proofs.layout.Layout.push.Goals as goal
 
 pub returns : goal.returns

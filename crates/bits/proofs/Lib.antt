@@ -1,0 +1,12 @@
+pub mod BitsLaws
+pub mod Entries
+pub mod SyntaxLaws
+pub mod TableFill
+pub mod TableFits
+pub mod Theorems
+pub mod TotalLaws
+pub mod Unique
+pub mod Width
+pub mod WidthTotal
+pub mod Yields
+pub mod Zeros

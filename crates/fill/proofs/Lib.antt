@@ -1,0 +1,4 @@
+pub mod ByTurn
+pub mod EachLaws
+pub mod InOrder
+pub mod TabLaws

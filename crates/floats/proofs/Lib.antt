@@ -1,0 +1,15 @@
+pub mod AllBits
+pub mod Bounds
+pub mod Bracket
+pub mod Centred
+pub mod Floor
+pub mod Gap
+pub mod Holds
+pub mod Inverse
+pub mod OneToOne
+pub mod Product
+pub mod Same
+pub mod Shifted
+pub mod Sign
+pub mod Sum
+pub mod Table

@@ -1,0 +1,2 @@
+pub mod UnpackedLaws
+pub mod WriteLaws

@@ -1,0 +1,147 @@
+-- Each way through a frame from its payload on leaves what the definition says.
+use Rattle.std.specs.Prelude.{◌≡◌, Bool, not, cond, List, ℕ, ◌+◌, ◌*◌, ◌≤◌, Float, length}
+use Rattle.std.proofs.Math.Path.{sym}
+use Rattle.std.proofs.Common.{◌∙◌, arith, eq-eqb, ne_eqb, Fits}
+use Rattle.std.proofs.Math.Bool.{true, false}
+use Rattle.std.proofs.lemmas.Bool.{not-true, not-false}
+use Rattle.std.specs.Int.{w8}
+use Rattle.mc_config.specs.Config.{config_of, layout_of}
+use Rattle.mc_config.specs.declared.McConfig.{McConfig}
+use Rattle.bits.specs.Syntax.{plain, accepted, refused, run}
+use Rattle.bits.proofs.Yields.{accepted-yields}
+use Rattle.mc_error.specs.Error.{refusal_of}
+use Rattle.mc_error.specs.declared.McError.{McError}
+use Rattle.mc_error.specs.declared.McError.TheVariants.{ConfigChanged}
+use Rattle.mc_payload.specs.declared.McSettings.{McSettings}
+use Rattle.mc_codes.specs.declared.payload.PayloadCodes.{PayloadCodes}
+use Rattle.mc_codes.specs.Outcome
+use Rattle.mc_payload.specs.Payload.{Codes}
+use Rattle.mc_unpack.specs.Settled.{settled_of, Numbered}
+use Rattle.mc_unpack.specs.Writable.{Writable}
+use Rattle.mc_unpack.proofs.SettledLaws.{settled-numbered, settled-writable}
+use Rattle.mc_payload.specs.Record.{raw_of, lfe_of, record_of}
+use Rattle.mc_payload.specs.Unpack.{allocations_fit, payload_of, Loan, settings_of}
+use Rattle.mc_payload.proofs.Demand3.Widths.{codes-fit}
+use Rattle.mc_base.specs.Base.{Base, scaled_base}
+use Rattle.mc_output.specs.Output.{channels, work_of, output_of}
+use Rattle.mc_history.specs.History.{history_at, history_of}
+use Rattle.mc_finish.specs.Finish.{BaseFits}
+use Rattle.mc_state.specs.declared.McAnswer.TheVariants.{Accepted, Refused}
+use Rattle.mc_state.specs.declared.McDecodeState.{McDecodeState}
+use Rattle.mc_state.specs.Held.{channels_by, layout_for, follows_by, follows, layout_after}
+use Rattle.mc_state.proofs.HeldLaws.{layout-small}
+use Rattle.mc_state.specs.Desk.{tallied}
+use Rattle.mc_state.specs.Frame.{Buffers, verdict_unpacked, answer_of, written, buffers_of, state_of, after_unpacked}
+use Rattle.mc_state.specs.Answer.{buffers_from, after_of}
+use Rattle.mc_state.specs.Long.{Long, Delayed}
+use Rattle.mc_body.proofs.WriteLaws.{delayed}
+
+-- ---- what was read
+
+settled-ran : (s : McSettings) (bytes : List ℕ) (bits : ℕ) (c : Codes) (u : ℕ) (t : Bool) → cond t (run (payload_of s) bytes bits 0) (refused (plain 8)) ≡ accepted c u
+    → run (payload_of s) bytes bits 0 ≡ accepted c u
+settled-ran s bytes bits c u true e = e
+settled-ran s bytes bits c u false e = let z : ◌≡◌ {A = ℕ} 0 1 = cc in absurd (omega arith)
+
+-- ---- what the parts require
+
+module _ (s : McSettings) (l : Loan) (es : s ≡ settings_of l) where
+  pub lfe-low : l.lfe ≤ 15 → s.lfe_allocation ≤ 15
+  unfolding settings_of
+  lfe-low h = rw es h
+
+  pub surround-low : l.header.surround ≤ 3 → s.header.surround ≤ 3
+  unfolding settings_of
+  surround-low h = rw es h
+
+  module _ (base : Base) (w : Buffers) (h : Long l.base_channels base w) where
+    pub base-fits : BaseFits s base
+    unfolding settings_of
+    base-fits = rw es (record { raw_left_long = h.raw_left; raw_right_long = h.raw_right; scaled_left_long = h.scaled_left; scaled_right_long = h.scaled_right })
+
+-- history looks at the scaled values alone
+pub history-same : (s : McSettings) (base : Base) (h : List Float) → h ≡ history_of s (scaled_base base.scaled_left base.scaled_right) → h ≡ history_of s base
+unfolding history_of history_at
+history-same s base h e = e
+
+-- ---- the frame's layout
+
+module _ (s : McSettings) (k : McConfig) (e : k ≡ config_of s.header s.base_channels) where
+  pub count-is : (n : ℕ) → n ≡ length (channels_by k.front s.header.surround) → n ≡ channels s
+  unfolding config_of layout_of
+  count-is n en = rw (en, e)
+
+  module _ (h : s.header.surround ≤ 3) where
+    number_small : 10 * k.front + s.header.surround ≤ 33
+    number_small = rw e (layout-small s h)
+
+    pub tens-fit : Fits w8 (10 * k.front)
+    tens-fit = record { fits = omega (arith, number_small) }
+
+    pub number_fits : Fits w8 (10 * k.front + s.header.surround)
+    number_fits = record { fits = omega (arith, number_small) }
+
+    pub number_is : 10 * k.front + s.header.surround ≡ layout_for s
+    number_is = rw e
+
+-- ---- what is written
+
+pub written_is : (s : McSettings) (c : Codes) (base : Base) (history raw work output lfe : List Float)
+    → raw ≡ raw_of s c → work ≡ work_of s (record_of s c) base history → output ≡ output_of s base work → lfe ≡ lfe_of s.lfe_allocation c
+    → buffers_from raw work output lfe ≡ written s c base history
+unfolding written record_of
+written_is s c base history raw work output lfe er ew eo el = rw (er, eo, ew, el)
+
+-- ---- what a payload was settled as
+
+module _ (s : McSettings) (payload : List ℕ) (bits : ℕ) (codes : PayloadCodes) (o : Outcome.outcome_of codes ≡ settled_of s payload bits) where
+  module _ (z : codes.cursor.err ≡ 0 → ⊥) where
+    is-refused : settled_of s payload bits ≡ refused (plain codes.cursor.err)
+    unfolding Outcome.outcome_of
+    is-refused = sym o ∙ rw (ne_eqb codes.cursor.err 0 z)
+
+    pub refused-number : Numbered codes.cursor.err
+    refused-number = settled-numbered s payload bits codes.cursor.err is-refused
+
+  module _ (z : codes.cursor.err ≡ 0) where
+    is-accepted : settled_of s payload bits ≡ accepted (Outcome.codes_of codes) codes.cursor.at
+    unfolding Outcome.outcome_of
+    is-accepted = sym o ∙ rw (eq-eqb codes.cursor.err 0 z)
+
+    pub writable : Writable s (Outcome.codes_of codes)
+    writable = settled-writable s payload bits (Outcome.codes_of codes) codes.cursor.at is-accepted
+
+    pub delays-small : Delayed codes.predictors
+    unfolding settled_of
+    delays-small =
+        delayed s (Outcome.codes_of codes)
+        (accepted-yields (codes-fit s) payload bits 0 (Outcome.codes_of codes) codes.cursor.at
+        (settled-ran s payload bits (Outcome.codes_of codes) codes.cursor.at (allocations_fit s) is-accepted))
+
+-- ---- the three ways to end
+
+module _ (st : McDecodeState) (desk head_used : ℕ) (base : Base) (w : Buffers) (s : McSettings) (payload : List ℕ) (bits : ℕ) (codes : PayloadCodes)
+    (o : Outcome.outcome_of codes ≡ settled_of s payload bits) (s' : McSettings) (es : s ≡ s')
+  where
+    pub after-refused : (codes.cursor.err ≡ 0 → ⊥) → (e : McError) → refusal_of e ≡ plain codes.cursor.err
+        → after_of (record { answer = Refused e; state = st }) w ≡ after_unpacked st desk s' head_used payload bits base w
+    unfolding after_unpacked verdict_unpacked answer_of buffers_of state_of
+    after-refused z e ee = rw (← es, is-refused s payload bits codes o z, ee)
+
+    module _ (z : codes.cursor.err ≡ 0) (n : ℕ) (en : n ≡ channels s) (own : ℕ) (el : own ≡ layout_for s) (h : List Float) (eh : h ≡ history_of s base) (b : Bool)
+        (eb : b ≡ follows_by s.reading st.layout_len st.layout n own) where
+      pub after-changed : not b ≡ true
+          → after_of (record { answer = Refused ConfigChanged; state = record { pred_hist = h; layout_len = st.layout_len; layout = st.layout; accepted = st.accepted } }) w
+          ≡ after_unpacked st desk s' head_used payload bits base w
+      unfolding after_unpacked verdict_unpacked answer_of buffers_of state_of follows
+      after-changed t =
+          let f : follows_by s.reading st.layout_len st.layout (channels s) (layout_for s) ≡ false = rw (← en, ← el, ← eb) (not-true b t) in
+          rw (← es, is-accepted s payload bits codes o z, f, eh)
+
+      pub after-accepted : not b ≡ false → (k : ℕ) → k ≡ layout_after s.reading st.layout own → (a : List ℕ) → a ≡ tallied desk st.accepted → (w' : Buffers) → w' ≡ written s (Outcome.codes_of codes) base st.pred_hist
+          → after_of (record { answer = Accepted head_used codes.cursor.at; state = record { pred_hist = h; layout_len = n; layout = k; accepted = a } }) w'
+          ≡ after_unpacked st desk s' head_used payload bits base w
+      unfolding after_unpacked verdict_unpacked answer_of buffers_of state_of follows
+      after-accepted t k ek a ea w' ew =
+          let f : follows_by s.reading st.layout_len st.layout (channels s) (layout_for s) ≡ true = rw (← en, ← el, ← eb) (not-false b t) in
+          rw (← es, is-accepted s payload bits codes o z, f, eh, ek, en, el, ea, ew)

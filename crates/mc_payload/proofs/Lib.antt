@@ -1,0 +1,6 @@
+pub mod Alike
+pub mod PayloadYields
+pub mod ReadingLaws
+pub mod UnpackLaws
+pub mod Demand3
+pub mod Longest

@@ -1,0 +1,6 @@
+pub mod Bound
+pub mod Example
+pub mod Holds
+pub mod Most
+pub mod Sums
+pub mod Zeros

@@ -1,0 +1,9 @@
+pub mod AlikeLaws
+pub mod BoundaryProof
+pub mod CarryLaws
+pub mod DeskLaws
+pub mod HeldLaws
+pub mod PackLaws
+pub mod ReadingLaws
+pub mod Demand1
+pub mod Reel

@@ -1,2 +1,0 @@
--- The definitions of the exported functions, and their laws.
-pub mod PartsLaws

@@ -1,2 +1,0 @@
-pub mod OneToOne
-pub mod Bounds
