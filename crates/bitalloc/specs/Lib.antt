@@ -1,2 +1,1 @@
--- The classes of quantization, and laws of their table.
 pub mod Classes

@@ -1,2 +1,1 @@
--- The definitions of numbers as bytes and of the hash, and their laws.
 pub mod Encoding

@@ -1,6 +1,4 @@
--- definitions
 pub mod Decimal
 pub mod Raw
 pub mod Within
--- division by a power of two
 pub mod Binary64

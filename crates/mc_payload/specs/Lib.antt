@@ -3,6 +3,6 @@ pub mod Places
 pub mod Payload
 pub mod Record
 pub mod Unpack
--- laws, demand 3 and the longest payload
+-- demand 3 and the longest payload
 pub mod Demand3
 pub mod Longest

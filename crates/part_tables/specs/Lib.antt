@@ -1,4 +1,4 @@
--- What the exported functions of parts leave and answer, and its laws.
+-- What the exported functions of parts leave and answer.
 pub mod Parts
 pub mod Payload
 pub mod PayloadCode

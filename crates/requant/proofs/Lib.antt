@@ -1,4 +1,4 @@
--- What the proofs of several functions use.
+-- what the proofs of several functions use
 pub mod Machine
 mod Literal
 pub mod AsRaw

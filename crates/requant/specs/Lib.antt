@@ -1,2 +1,1 @@
--- The values of codes, and laws of them.
 pub mod Requant

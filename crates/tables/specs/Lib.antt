@@ -1,2 +1,1 @@
--- The scalefactors, and a law of their table.
 pub mod Scalefactor
