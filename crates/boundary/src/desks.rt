@@ -4,9 +4,9 @@ ghost use Rattle.mc_state.specs.Carry.{converted_over};
 
 use crate::frames::{three_one, three_two};
 use crate::lines::{carry_line, line};
-use crate::out::Out;
 use crate::print::say_converted;
 use mc_state::McDecodeState;
+use program_out::Out;
 
 // A frame's line from a desk, and the state after it; the base begins with this value.
 fn desk_line(

@@ -7,11 +7,11 @@ use crate::frames::{
     barred, centre_code, forbidden, layer_three, lfe_scalefactor, longest, mono_surround, phantom,
     scalefactor, three_one, three_two, two_two,
 };
-use crate::out::Out;
 use crate::print::{say_carried, say_found};
 use boundary_look::{holds_until, second_is_first, third_is_silent};
 use boundary_run::{Loan, ramp, run_frame};
 use mc_state::McDecodeState;
+use program_out::Out;
 
 // A frame's line, and the state after it.
 pub fn line(

@@ -7,7 +7,6 @@ mod desks;
 mod frames;
 mod heads;
 mod lines;
-mod out;
 mod print;
 
 use desks::{convert_lines, desk_lines};
@@ -15,7 +14,7 @@ use lines::{
     carry_lines, layout_lines, mono_lines, phantom_lines, reading_lines, refusal_lines,
     string_lines,
 };
-use out::Out;
+use program_out::Out;
 use std::io;
 
 fn main(rt: HostRuntime) -> io::Result<()> {

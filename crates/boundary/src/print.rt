@@ -3,10 +3,10 @@ ghost use Rattle.std.specs.Prelude.{◌≡◌};
 ghost use Rattle.boundary_look.specs.Look.{same_values};
 ghost use Rattle.boundary_run.specs.Run.{same_tallies, same_counts, stored_by};
 
-use crate::out::Out;
 use boundary_look::{is_stored, same_values};
 use boundary_run::{Found, Loan, Told, in_numbers, ramp};
 use mc_state::{CarriedState, CarryAnswer, McDecodeState};
+use program_out::Out;
 
 fn say_answer(out: &mut Out<impl Print>, answer: Told) {
     let number = answer.number;

@@ -4,7 +4,6 @@ ghost use Rattle.frame_file.specs.File.{fault_of};
 ghost use Rattle.frame_body.specs.Lent.{Whole};
 ghost use Rattle.mcread.specs.Step.{before_frame, after_frame, step_of, marked_of};
 
-use crate::out::Out;
 use crate::report;
 use encoding::{u8_at, u32_at};
 use frame_body::{decode_body, first_state, layout_of, second_state};
@@ -12,6 +11,7 @@ use frame_file::{
     Numbers, body_bytes, fault_of, number_bytes, numbers_of, opening_fault, version_of,
 };
 use mc_state::{CarryAnswer, McAnswer, McDecodeState};
+use program_out::Out;
 use std::io;
 use std::io::Read;
 

@@ -2,12 +2,11 @@
 #![tactic(auto)]
 
 use input::run;
-use out::Out;
+use program_out::Out;
 use std::io;
 use std::io::Input;
 
 mod input;
-mod out;
 mod report;
 
 fn main(rt: HostRuntime) -> io::Result<()> {

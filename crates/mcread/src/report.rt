@@ -1,13 +1,13 @@
 // Printing. These functions only write; what they write is made by the functions of the other files.
 ghost use Rattle.std.specs.Prelude.{◌≤◌, length};
 
-use crate::out::Out;
 use frame_file::Numbers;
 use frame_summary::{millionths_of, six_digits, summary_of};
 use frame_text::{Text, name_of, words_of};
 use mc_config::Layout;
 use mc_error::McError;
 use mc_state::CarryAnswer;
+use program_out::Out;
 
 fn put_text(out: &mut Out<impl Print>, t: Text)
     requires { t.len ≤ length t.bytes }
