@@ -1,6 +1,6 @@
 /* Moves a stream from reading 1 to reading 2 without beginning anew: 3/1 and 2/2 have four channels
  * each, which reading 1 takes for the same layout and reading 2 does not. From the repository's root:
- *   rt staticlib mc_frame
+ *   tools/staticlib mc_frame
  *   cc -std=c11 -Wall -Wextra -fsanitize=address,undefined -Iinclude examples/carry.c \
  *      target/staticlib/libmc_frame.a -o target/carry && target/carry
  */

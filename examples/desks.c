@@ -1,6 +1,6 @@
 /* Reads frames of three desks through one state, and of a desk that there is not; carries the state,
  * and converts one of before there were desks. From the repository's root:
- *   rt staticlib mc_frame
+ *   tools/staticlib mc_frame
  *   cc -std=c11 -Wall -Wextra -fsanitize=address,undefined -Iinclude examples/desks.c \
  *      target/staticlib/libmc_frame.a -o target/desks && target/desks
  */

@@ -1,5 +1,5 @@
 /* Reads the smallest frame, then the same frame with one head bit too few. From the repository's root:
- *   rt staticlib mc_frame
+ *   tools/staticlib mc_frame
  *   cc -std=c11 -Wall -Wextra -fsanitize=address,undefined -Iinclude examples/frame.c \
  *      target/staticlib/libmc_frame.a -o target/frame && target/frame
  */

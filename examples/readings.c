@@ -1,7 +1,7 @@
 /* Reads two frames under both readings of the transfer guide, and under a number that is none: a stereo
  * base with centre code 2, and a mono base with a phantom centre (code 3) and a second stereo programme.
  * From the repository's root:
- *   rt staticlib mc_frame
+ *   tools/staticlib mc_frame
  *   cc -std=c11 -Wall -Wextra -fsanitize=address,undefined -Iinclude examples/readings.c \
  *      target/staticlib/libmc_frame.a -o target/readings && target/readings
  */

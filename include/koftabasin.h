@@ -1,6 +1,6 @@
 /* koftabasin.h - the proved reader of Layer II multichannel extension frames (ISO/IEC 13818-3).
  *
- * `rt staticlib mc_frame` at the repository's root proves the reader and makes
+ * `tools/staticlib mc_frame` at the repository's root proves the reader and makes
  * target/staticlib/libmc_frame.a, which has mc_fresh_state_desks, mc_carry_state_desks,
  * mc_convert_state and mc_decode_frame_desks. They allocate nothing, keep nothing between calls but what
  * is in the state, and may run in several threads on different states and buffers. "Refusal N" is a

@@ -23,7 +23,7 @@ fn main() {
 fn missing(library: &Path) -> ! {
     eprintln!(
         "koftabasin: the proved library {} is missing.\n\
-         `rt staticlib mc_frame` at the repository's root proves and makes it. To link one from\n\
+         `tools/staticlib mc_frame` at the repository's root proves and makes it. To link one from\n\
          another folder, name that folder in the variable KOFTABASIN_STATICLIB (a relative name is\n\
          taken from the folder of wrapper/Cargo.toml).",
         library.display()

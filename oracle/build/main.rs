@@ -206,7 +206,7 @@ fn link(program: &str, name: &str) {
     let Ok(path) = library.canonicalize() else {
         fail(&format!(
             "the static library {} is missing.\n\
-             `rt staticlib {name}` at the repository's root makes it; name another folder in the\n\
+             `tools/staticlib {name}` at the repository's root makes it; name another folder in the\n\
              variable KOFTABASIN_STATICLIB (from the folder of oracle/Cargo.toml).",
             library.display()
         ))
