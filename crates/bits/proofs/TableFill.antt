@@ -2,7 +2,8 @@
 use Rattle.std.specs.Prelude.{◌≡◌, refl, List, ℕ, suc, ◌+◌, ◌≤◌, ◌<◌, length, get_or, set}
 use Rattle.std.proofs.Common.{◌∙◌, arith, length-set, get_or-set_same, get_or-set_other}
 use Rattle.bits.specs.Syntax.{Syntax, times}
-use Rattle.bits.proofs.Unique.{Finds, Recovers, finds-weaken, finds-times}
+use Rattle.bits.specs.Recovers.{Finds, Recovers}
+use Rattle.bits.proofs.Unique.{finds-weaken, finds-times}
 use Rattle.bits.specs.Table.{set3}
 
 -- ---- tables

@@ -5,7 +5,8 @@ use Rattle.bits.specs.Bits.{bit_at}
 use Rattle.bits.proofs.BitsLaws.{bit-take}
 use Rattle.bits.specs.Syntax.{plain, Syntax, accepted, refused, run}
 use Rattle.bits.proofs.SyntaxLaws.{prefix, cut}
-use Rattle.bits.proofs.Unique.{Recovers, unique}
+use Rattle.bits.specs.Recovers.{Recovers}
+use Rattle.bits.proofs.Unique.{unique}
 
 -- the same first u bits
 abbrev pub SameBits : List ℕ → List ℕ → ℕ → Type 0

@@ -2,3 +2,4 @@ pub mod Bits
 pub mod Syntax
 pub mod Table
 pub mod Total
+pub mod Recovers

@@ -2,7 +2,8 @@
 use Rattle.std.specs.Prelude.{◌≡◌, refl, Bool, true, false, ◌&&◌, cond, List, ℕ, ◌+◌, ◌*◌, ◌≤◌, eqb, ltb, get_or, set, replicate}
 use Rattle.std.proofs.Common.{arith}
 use Rattle.bits.specs.Syntax.{Syntax}
-use Rattle.bits.proofs.Unique.{Finds, Recovers, finds-done, finds-refuse, finds-field, finds-cond, finds-weaken, finds-bind, finds-times, finds-along, recovers-both, flag-value}
+use Rattle.bits.specs.Recovers.{Finds, Recovers}
+use Rattle.bits.proofs.Unique.{finds-done, finds-refuse, finds-field, finds-cond, finds-weaken, finds-bind, finds-times, finds-along, recovers-both, flag-value}
 use Rattle.bits.proofs.TableFill.{Filling, fill-up, fill-set, recovers-loop}
 use Rattle.mc_config.specs.Config.{config_of, pair_of}
 use Rattle.mc_config.specs.Reading.{centre_stops}

@@ -87,7 +87,8 @@ pub fn scale<'a>(
     fill::clear(work);
     for i in 0usize..96 {
         let place = 3 * (i % 32) + i / 32;
-        if steps[place] != 0 {
+        let n = steps[place];
+        if n != 0 {
             scale_place(
                 place,
                 source[place],

@@ -3,7 +3,8 @@ use Rattle.std.specs.Prelude.{◌≡◌, refl, Bool, List, ℕ, suc, ◌+◌, �
 use Rattle.std.proofs.Common.{arith}
 use Rattle.std.proofs.lemmas.List.{length-replicate}
 use Rattle.bits.specs.Syntax.{Syntax, done}
-use Rattle.bits.proofs.Unique.{Finds, Recovers, finds-done, finds-refuse, finds-field, finds-cond, finds-weaken, finds-times, recovers-both}
+use Rattle.bits.specs.Recovers.{Finds, Recovers}
+use Rattle.bits.proofs.Unique.{finds-done, finds-refuse, finds-field, finds-cond, finds-weaken, finds-times, recovers-both}
 use Rattle.bits.specs.Table.{set3}
 use Rattle.bits.proofs.TableFill.{Filling, Keeps3, fill-up, fill-set, fill-set3, recovers-loop}
 use Rattle.bitalloc.specs.Classes.{grouped}

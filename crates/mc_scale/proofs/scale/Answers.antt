@@ -13,7 +13,7 @@ use Rattle.mc_scale.proofs.Laws.ScaleByPlace.{scaling-more, scaling-skip, scalin
 use Rattle.mc_scale.proofs.Laws.TwoSteps.{one-step}
 use native.Mathlib.Omega.{arith}
 use Rattle.mc_scale.proofs.scale.Goals as goal
-use Rattle.mc_scale.proofs.scale.Goals.{then-steps-place-ne0, else-steps-place-ne0}
+use Rattle.mc_scale.proofs.scale.Goals.{then-n-ne0, else-n-ne0}
 
 -- a cleared buffer is as long as it was
 cleared-long : (n : ℕ) (d : List Float) → d ≡ tab (λ (k : ℕ). zero64) n → length d ≡ n
@@ -38,7 +38,7 @@ loop-i-preserved c =
     let a = l.args in
     let factors = l.factors_of-factors.result in (
       omega arith,
-      elim c.if-steps-place-ne0.branch [ then-steps-place-ne0 w ↦ scaling-more a.steps.now a.source.now a.base.now factors a.raw.now a.left.now a.right.now _ _ _ _ l.loop-i.invariant.1 (omega arith) w.if-steps-place-ne0.true _ w.scale_place.ensures w.work-is | else-steps-place-ne0 w ↦ search scaling-skip ],
+      elim c.if-n-ne0.branch [ then-n-ne0 w ↦ scaling-more a.steps.now a.source.now a.base.now factors a.raw.now a.left.now a.right.now _ _ _ _ l.loop-i.invariant.1 (omega arith) w.if-n-ne0.true _ w.scale_place.ensures w.work-is | else-n-ne0 w ↦ search scaling-skip ],
     )
 
 pub shape_of-work : goal.shape_of-work
