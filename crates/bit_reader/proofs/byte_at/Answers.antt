@@ -1,4 +1,4 @@
--- `bits::byte_at` meets its contract.
+-- `bit_reader::byte_at` meets its contract.
 use borrow.Author.Rules.{rules}
 use native.Mathlib.Omega.{arith}
 use lib.ListN.{get_or-eq_default}

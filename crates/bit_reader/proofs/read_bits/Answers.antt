@@ -1,4 +1,4 @@
--- `bits::read_bits` meets its contract.
+-- `bit_reader::read_bits` meets its contract.
 use Prim.Native.Nat.{◌+◌}
 use native.Mathlib.Omega.{arith}
 use lib.Pow.{pow_pos}

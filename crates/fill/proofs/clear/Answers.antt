@@ -1,4 +1,4 @@
--- `clear` meets its contract.
+-- `fill::clear` meets its contract.
 use mathlib.Core.Path.{refl}
 use native.Mathlib.Omega.{arith}
 use Rattle.fill.proofs.InOrder.{starts, more, ends-all}

@@ -1,4 +1,4 @@
--- `clear` meets its contract.
+-- `fill::clear` meets its contract.
 use Prim.Native.Nat.{ℕ, ◌-◌}
 use lib.ListN.{length}
 use Rattle.fill.proofs.InOrder.{Filling}

@@ -1,4 +1,4 @@
--- `encoding::hash_floats` meets its contract. The hash of the floats that are left stays the same.
+-- `hash::hash_floats` meets its contract. The hash of the floats that are left stays the same.
 use Rattle.std.proofs.Common.{ℕ, ◌+◌, drop, sym, ap, ◌∙◌}
 use Rattle.encoding.specs.Encoding.{hash_floats, hash_number}
 use Rattle.encoding.proofs.EncodingLaws.{floats-more, floats-none}

@@ -1,4 +1,4 @@
--- `encoding::hash_floats` meets its contract. The hash of the floats that are left stays the same.
+-- `hash::hash_floats` meets its contract. The hash of the floats that are left stays the same.
 use Rattle.std.proofs.Common.{◌≡◌, ◌-◌, length, drop}
 use Rattle.encoding.specs.Encoding.{hash_floats}
 use Rattle.hash.proofs.hash_floats.Given as goal

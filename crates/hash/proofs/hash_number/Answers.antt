@@ -1,4 +1,4 @@
--- `encoding::hash_number` meets its contract. The hash of the bytes that are left stays the same.
+-- `hash::hash_number` meets its contract. The hash of the bytes that are left stays the same.
 use Rattle.std.proofs.Common.{ℕ, ◌-◌, ◌/◌, sym, ap, ◌∙◌}
 use Rattle.encoding.specs.Encoding.{hash_bytes}
 use Rattle.encoding.proofs.EncodingLaws.{hash-more, hash-none}

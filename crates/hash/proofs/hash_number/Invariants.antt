@@ -1,4 +1,4 @@
--- `encoding::hash_number` meets its contract. The hash of the bytes that are left stays the same.
+-- `hash::hash_number` meets its contract. The hash of the bytes that are left stays the same.
 use Rattle.std.proofs.Common.{◌≡◌}
 use Rattle.encoding.specs.Encoding.{hash_bytes}
 use Rattle.hash.proofs.hash_number.Given as goal

@@ -1,4 +1,4 @@
--- `encoding::times_prime` meets its contract.
+-- `hash::times_prime` meets its contract.
 use Rattle.std.proofs.Common.{ℕ, ◌+◌, ◌*◌, ◌%◌, ap, ◌∙◌}
 use Rattle.encoding.proofs.EncodingLaws.{product}
 use Rattle.hash.proofs.times_prime.Goals as goal

@@ -1,4 +1,4 @@
--- `mc_head::base_fits` meets its contract.
+-- `mc_fields::base_fits` meets its contract.
 use borrow.Author.Tests.{eq-eqb, ne_eqb}
 use Rattle.mc_fields.proofs.base_fits.Goals as goal
 

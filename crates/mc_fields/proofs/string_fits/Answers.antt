@@ -1,4 +1,4 @@
--- `mc_head::string_fits` meets its contract.
+-- `mc_fields::string_fits` meets its contract.
 use borrow.Author.Tests.{le-leb, lt-leb}
 use Rattle.mc_fields.proofs.string_fits.Goals as goal
 

@@ -1,4 +1,4 @@
--- `finish` meets its contract: scaling, prediction and output, one after the other.
+-- `mc_finish::finish` meets its contract: scaling, prediction and output, one after the other.
 use Rattle.mc_base.specs.Base.{base_from}
 use Rattle.mc_finish.specs.Finish.{record_from}
 use Rattle.mc_finish.proofs.Laws.Finish.{sources-small, bases-long, output-scaled, work-finished}

@@ -1,4 +1,4 @@
--- `history` meets its contract. The loop writes a line of nine a turn.
+-- `mc_history::history` meets its contract. The loop writes a line of nine a turn.
 use mathlib.Core.Path.{◌∙◌, ap, refl}
 use Prim.Native.Nat.{◌-◌, ◌/◌}
 use lib.Dec.{eqb}
@@ -17,17 +17,14 @@ loop-line-init c = (omega arith, refl, turn-starts (search rules))
 
 pub store_line-requires : goal.store_line-requires
 store_line-requires c =
-    let l = c in
-    let s = c in
-    let a = s.args in
-    let long = chosen-long (eqb a.s.base_channels 1) 1 a.left.now a.right.now s.requires.0 s.requires.1 in
-    (line-long (l.loop-line.line / 32) _ _ _ s.requires.0 (ap length c.second_base-second.ensures ∙ long) c.chosen-base.ensures, omega arith, omega (arith, l.loop-line.invariant.1))
+    let a = c.args in
+    let long = chosen-long (eqb a.s.base_channels 1) 1 a.left.now a.right.now c.requires.0 c.requires.1 in
+    (line-long (c.loop-line.line / 32) _ _ _ c.requires.0 (ap length c.second_base-second.ensures ∙ long) c.chosen-base.ensures, omega arith, omega (arith, c.loop-line.invariant.1))
 
 pub loop-line-preserved : goal.loop-line-preserved
 loop-line-preserved c =
-    let l = c in
     let a = c.args in
-    (omega arith, ap length c.store_line.ensures ∙ (length-strided 1 _ _ _ 9 ∙ l.loop-line.invariant.1), rw (c.store_line.ensures, c.chosen-base.ensures) (turn-line a.left.now _ l.loop-line.invariant.2 (omega arith)))
+    (omega arith, ap length c.store_line.ensures ∙ (length-strided 1 _ _ _ 9 ∙ c.loop-line.invariant.1), rw (c.store_line.ensures, c.chosen-base.ensures) (turn-line a.left.now _ c.loop-line.invariant.2 (omega arith)))
 
 pub returns : goal.returns
 returns c =

@@ -1,4 +1,4 @@
--- `history` meets its contract. The loop writes a line of nine a turn.
+-- `mc_history::history` meets its contract. The loop writes a line of nine a turn.
 use mathlib.Core.Path.{◌≡◌}
 use Prim.Native.Nat.{ℕ, ◌-◌, ◌/◌, ◌≤◌}
 use lib.Ieee.{nan}

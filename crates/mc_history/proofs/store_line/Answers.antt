@@ -1,4 +1,4 @@
--- `store_line` meets its contract. The loop writes nine places in a row.
+-- `mc_history::store_line` meets its contract. The loop writes nine places in a row.
 use mathlib.Core.Path.{◌≡◌, refl}
 use Prim.Native.Nat.{◌+◌, ◌-◌, ◌*◌}
 use Rattle.mc_scale.proofs.Laws.Strided.{stride-starts, stride-more, stride-ends}

@@ -1,4 +1,4 @@
--- `store_line` meets its contract. The loop writes nine places in a row.
+-- `mc_history::store_line` meets its contract. The loop writes nine places in a row.
 use Prim.Native.Nat.{◌-◌}
 use Rattle.mc_history.specs.HistoryBy.{line_by}
 use Rattle.mc_scale.proofs.Laws.Strided.{Striding}

@@ -6,6 +6,5 @@ use Rattle.mc_pack.proofs.number_of.Reads as number-of-reads
 use Rattle.mc_state.proofs.McDecodeState.carry.Reads as carry-reads
 use Rattle.mc_pack.proofs.carried.Goals as goal
 
--- src/lib.rt:113:1
 pub returns : goal.returns
 returns c = search carrying-number

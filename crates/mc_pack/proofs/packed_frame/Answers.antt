@@ -6,6 +6,5 @@ use Rattle.mc_pack.proofs.pack.Reads as pack-reads
 use Rattle.mc_decode.proofs.frame_by_value.Reads as frame-reads
 use Rattle.mc_pack.proofs.packed_frame.Goals as goal
 
--- src/lib.rt:33:1
 pub returns : goal.returns
 returns c = packs-after c.frame-t.result _ _ c.pack.result c.frame-t.ensures c.pack.ensures

@@ -12,8 +12,7 @@ loop-sb-init c = (omega arith, turn-starts (omega arith))
 
 pub predict_subband-requires : goal.predict_subband-requires
 predict_subband-requires c =
-    let s = c in
-    let l = c.loop-sb in record { place = (omega arith, l.invariant.1.long ∙ s.requires.lengths.2); delays_low = λ px h. s.requires.delays_low l.sb px c.loop-sb-test.true h }
+    let l = c.loop-sb in record { place = (omega arith, l.invariant.1.long ∙ c.requires.lengths.2); delays_low = λ px h. c.requires.delays_low l.sb px c.loop-sb-test.true h }
 
 pub loop-sb-preserved : goal.loop-sb-preserved
 loop-sb-preserved c =

@@ -11,8 +11,7 @@ use Rattle.mc_predict.proofs.predict_subband.Goals as goal
 
 pub loop-k-init : goal.loop-k-init
 loop-k-init c =
-    let s = c in
-    (omega arith, predicted-listed s.args.pair s.args.mode c.predictable_channels-predicted.ensures, turn-starts (omega arith))
+    (omega arith, predicted-listed c.args.pair c.args.mode c.predictable_channels-predicted.ensures, turn-starts (omega arith))
 
 pub overflow_cast-m : goal.overflow_cast-m
 overflow_cast-m c =
@@ -31,10 +30,9 @@ overflow_add-m c =
 
 pub predict_column-requires : goal.predict_column-requires
 predict_column-requires c =
-    let s = c in
     let l = c.loop-k in
     let h = c.loop-k-test.true in
-    (s.requires.delays_low (2 * l.k) (omega arith), s.requires.delays_low (2 * l.k + 1) (omega arith), omega (arith, l.invariant.1.at l.k, l.invariant.1.low l.k h, l.invariant.2.long, s.requires.place.1))
+    (c.requires.delays_low (2 * l.k) (omega arith), c.requires.delays_low (2 * l.k + 1) (omega arith), omega (arith, l.invariant.1.at l.k, l.invariant.1.low l.k h, l.invariant.2.long, c.requires.place.1))
 
 pub loop-k-preserved : goal.loop-k-preserved
 loop-k-preserved c =

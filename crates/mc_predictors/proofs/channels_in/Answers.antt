@@ -1,4 +1,4 @@
--- `predictors::channels_in` meets its contract.
+-- `mc_predictors::channels_in` meets its contract.
 use mathlib.Core.Path.{refl, sym}
 use mathlib.Core.List.{[]}
 use lib.ListN.{get_or-eq_default}

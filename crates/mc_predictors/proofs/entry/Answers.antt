@@ -1,4 +1,4 @@
--- `predictors::entry` meets its contract.
+-- `mc_predictors::entry` meets its contract.
 use mathlib.Core.Path.{sym}
 use lib.ListN.{get_or-eq_default}
 use Rattle.mc_predictors.proofs.entry.Goals as goal

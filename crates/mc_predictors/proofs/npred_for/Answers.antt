@@ -1,4 +1,4 @@
--- `predictors::npred_for` meets its contract.
+-- `mc_predictors::npred_for` meets its contract.
 use mathlib.Core.Path.{◌∙◌, sym}
 use mathlib.Core.Logic.{⊎_elim}
 use Rattle.mc_crosstalk.proofs.CrosstalkLaws.{predictors-other}

@@ -1,4 +1,4 @@
--- `predictors::predictable_channels` meets its contract: each of its tables is the standard's, with fillers after the rows.
+-- `mc_predictors::predictable_channels` meets its contract: each of its tables is the standard's, with fillers after the rows.
 use mathlib.Core.Path.{◌≡◌, ◌∙◌, ap}
 use mathlib.Core.List.{[], map}
 use mathlib.Core.Logic.{⊎_elim}

@@ -27,18 +27,16 @@ loop-i-init c = (omega arith, turn-starts (omega (arith, cleared-long _ _ c.clea
 
 pub scale_place-requires : goal.scale_place-requires
 scale_place-requires c =
-    let l = c in
-    let p = l.requires in
-    let h : place_at l.loop-i.i < 96 = omega arith in
-    (h, p.places_fit.source_small (place_at l.loop-i.i) h, p.lengths.0, p.places_fit.base_long (place_at l.loop-i.i) h, l.loop-i.invariant.1.long ∙ (cleared-long _ _ l.clear.ensures ∙ p.lengths.1))
+    let p = c.requires in
+    let h : place_at c.loop-i.i < 96 = omega arith in
+    (h, p.places_fit.source_small (place_at c.loop-i.i) h, p.lengths.0, p.places_fit.base_long (place_at c.loop-i.i) h, c.loop-i.invariant.1.long ∙ (cleared-long _ _ c.clear.ensures ∙ p.lengths.1))
 
 pub loop-i-preserved : goal.loop-i-preserved
 loop-i-preserved c =
-    let l = c in
-    let a = l.args in
-    let factors = l.factors_of-factors.result in (
+    let a = c.args in
+    let factors = c.factors_of-factors.result in (
       omega arith,
-      elim c.if-n-ne0.branch [ then-n-ne0 w ↦ scaling-more a.steps.now a.source.now a.base.now factors a.raw.now a.left.now a.right.now _ _ _ _ l.loop-i.invariant.1 (omega arith) w.if-n-ne0.true _ w.scale_place.ensures w.work-is | else-n-ne0 w ↦ search scaling-skip ],
+      elim c.if-n-ne0.branch [ then-n-ne0 w ↦ scaling-more a.steps.now a.source.now a.base.now factors a.raw.now a.left.now a.right.now _ _ _ _ c.loop-i.invariant.1 (omega arith) w.if-n-ne0.true _ w.scale_place.ensures w.work-is | else-n-ne0 w ↦ search scaling-skip ],
     )
 
 pub shape_of-work : goal.shape_of-work
@@ -46,13 +44,12 @@ shape_of-work c = c.loop-i.invariant.1.long ∙ cleared-long _ _ c.clear.ensures
 
 pub returns : goal.returns
 returns c =
-    let s = c in
-    let a = s.args in
+    let a = c.args in
     let factors = c.factors_of-factors in
     let once =
-    scaling-ends a.steps.now a.source.now a.base.now factors.result a.raw.now a.left.now a.right.now _ _ _ c.loop-i.invariant.1 (omega arith) (cleared-long _ _ c.clear.ensures ∙ s.requires.lengths.1) in
+    scaling-ends a.steps.now a.source.now a.base.now factors.result a.raw.now a.left.now a.right.now _ _ _ c.loop-i.invariant.1 (omega arith) (cleared-long _ _ c.clear.ensures ∙ c.requires.lengths.1) in
     rw (← factors.ensures)
     (record {
       scaled = once;
-      two_steps = once ∙ one-step a.steps.now a.source.now a.base.now factors.result a.raw.now a.left.now a.right.now a.work.now s.requires.lengths.1;
+      two_steps = once ∙ one-step a.steps.now a.source.now a.base.now factors.result a.raw.now a.left.now a.right.now a.work.now c.requires.lengths.1;
     })

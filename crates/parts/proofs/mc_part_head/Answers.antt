@@ -7,6 +7,5 @@ returns-then-out-ne-HEAD_BYTES c = let a = c.args in wrong-room a.reading a.byte
 
 pub returns : goal.returns
 returns c =
-    let q = c in
-    let a = q.args in
-    right-room a.reading a.bytes.now a.bits a.base_channels _ q.if-out-ne-HEAD_BYTES.false q.read_head-head.result q.read_head-head.ensures.answer _ c.pack.ensures a.out.now _ c.write_head.ensures
+    let a = c.args in
+    right-room a.reading a.bytes.now a.bits a.base_channels _ c.if-out-ne-HEAD_BYTES.false c.read_head-head.result c.read_head-head.ensures.answer _ c.pack.ensures a.out.now _ c.write_head.ensures

@@ -16,5 +16,4 @@ shape_of-out c = c.loop-k.invariant.long
 
 pub returns : goal.returns
 returns c =
-    let q = c in
-    all-bytes q.args.header q.args.word q.args.status _ _ q.first_bytes-first.ensures (ends-all c.loop-k.invariant (omega arith) q.requires)
+    all-bytes c.args.header c.args.word c.args.status _ _ c.first_bytes-first.ensures (ends-all c.loop-k.invariant (omega arith) c.requires)

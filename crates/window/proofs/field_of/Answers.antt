@@ -1,4 +1,4 @@
--- `cursor::field_of` meets its contract.
+-- `window::field_of` meets its contract.
 use Prim.Native.Nat.{ℕ, ◌-◌, ◌/◌, ◌%◌, ◌^◌, ◌≤◌, ◌<◌}
 use native.Mathlib.Nat.{mod-lt}
 use lib.Pow.{pow_pos, pow_mono}

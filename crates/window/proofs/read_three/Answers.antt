@@ -1,4 +1,4 @@
--- `cursor::read_three` meets its contract.
+-- `window::read_three` meets its contract.
 use native.Mathlib.Omega.{arith}
 use Rattle.window.proofs.ThreeLaws.{value-two, three-window, three-read}
 use Rattle.window.proofs.Window.{word_small}

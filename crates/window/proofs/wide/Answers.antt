@@ -1,4 +1,4 @@
--- `cursor::wide` meets its contract.
+-- `window::wide` meets its contract.
 use mathlib.Core.Bool.{false≢true}
 use native.Mathlib.Omega.{arith}
 use borrow.Author.Tests.{leb-true}

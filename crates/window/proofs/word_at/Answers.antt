@@ -1,4 +1,4 @@
--- `cursor::word_at` meets its contract.
+-- `window::word_at` meets its contract.
 use Rattle.window.proofs.Window.{word-computed}
 use Rattle.window.proofs.wider.Reads as wider-reads
 use Rattle.window.proofs.word_at.Goals as goal

@@ -9,7 +9,7 @@ pub loop-k-init : goal.loop-k-init
 loop-k-init c = (omega arith, each_start _)
 
 pub loop-k-preserved : goal.loop-k-preserved
-loop-k-preserved c = (omega arith, let q = c in let a = q.args in stored_next a.history.now a.left.now a.right.now q.loop-k.k _ _ _ c.loop-k.invariant.1 c.same.ensures c.same-in-loop-k.ensures)
+loop-k-preserved c = (omega arith, let a = c.args in stored_next a.history.now a.left.now a.right.now c.loop-k.k _ _ _ c.loop-k.invariant.1 c.same.ensures c.same-in-loop-k.ensures)
 
 pub returns : goal.returns
 returns c = each-end _ _ _ _ c.loop-k.invariant.1 c.loop-k.invariant.0 (omega arith)

@@ -12,8 +12,7 @@ loop-k-init c = (omega arith, omega arith, refl)
 
 pub loop-k-preserved : goal.loop-k-preserved
 loop-k-preserved c =
-    let q = c in
-    (omega arith, omega arith, byte_more q.args.bits.now q.args.first q.loop-k.k _ _ q.loop-k.invariant.2 c.wide.ensures.0)
+    (omega arith, omega arith, byte_more c.args.bits.now c.args.first c.loop-k.k _ _ c.loop-k.invariant.2 c.wide.ensures.0)
 
 pub returns : goal.returns
 returns c = let e : c.loop-k.k ≡ 8 = omega arith in c.loop-k.invariant.2 ∙ ap (byte_of c.args.bits.now c.args.first) e

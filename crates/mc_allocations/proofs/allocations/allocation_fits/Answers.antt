@@ -1,4 +1,4 @@
--- `allocations::allocation_fits` meets its contract.
+-- `mc_allocations::allocations::allocation_fits` meets its contract.
 use Rattle.mc_allocations.proofs.AllocationsLaws.{allocation-zero, allocation-unsent, allocation-class}
 use Rattle.mc_allocations.proofs.allocations.allocation_fits.Goals as goal
 

@@ -1,4 +1,4 @@
--- `allocations::allocations_fit` meets its contract.
+-- `mc_allocations::allocations::allocations_fit` meets its contract.
 use mathlib.Core.Path.{◌≡◌}
 use mathlib.Core.Bool.{true}
 use Prim.Native.Nat.{◌-◌, ◌≤◌}

@@ -1,4 +1,4 @@
--- `mc_body::frame_layout` meets its contract.
+-- `mc_body::unpacked::frame_layout` meets its contract.
 use Rattle.mc_body.proofs.UnpackedLaws.{count-is, tens-fit, number_fits, number_is}
 use Rattle.mc_body.proofs.unpacked.frame_layout.Goals as goal
 

@@ -1,4 +1,4 @@
--- `mc_body::unpacked_frame` meets its contract.
+-- `mc_body::unpacked::unpacked_frame` meets its contract.
 use mathlib.Core.Path.{ap}
 use mathlib.Core.Bool.{not}
 use Rattle.mc_codes.specs.Outcome.{codes_of}

@@ -1,4 +1,4 @@
--- `mc_state::checks::all_fit` meets its contract: at k the flag is the test of the first k values.
+-- `mc_checks::checks::all_fit` meets its contract: at k the flag is the test of the first k values.
 use mathlib.Core.Path.{◌≡◌}
 use Prim.Native.Nat.{ℕ, ◌≤◌, ◌-◌}
 use lib.Ieee.{nan}

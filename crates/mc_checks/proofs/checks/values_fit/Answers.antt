@@ -9,7 +9,6 @@ use Rattle.mc_checks.proofs.checks.values_fit.Goals as goal
 joined : {a b c d e a' b' c' d' e' : Bool} → a ≡ a' → b ≡ b' → c ≡ c' → d ≡ d' → e ≡ e' → a && (b && (c && (d && e))) ≡ a' && (b' && (c' && (d' && e')))
 joined p q r s t = cc
 
--- src/checks.rt:20:1
 pub returns : goal.returns
 unfolding values_fit
 returns c = search joined

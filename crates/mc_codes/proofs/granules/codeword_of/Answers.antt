@@ -1,4 +1,4 @@
--- `granules::codeword_of` meets its contract.
+-- `mc_codes::granules::codeword_of` meets its contract.
 use Rattle.mc_codes.proofs.ClassLaws.{found-fits, found-bits, found-grouped, unknown-bits, unknown-grouped}
 use Rattle.mc_codes.proofs.granules.codeword_of.Goals as goal
 

@@ -1,4 +1,4 @@
--- `granules::codewords_of` meets its contract.
+-- `mc_codes::granules::codewords_of` meets its contract.
 use mathlib.Core.Path.{refl}
 use Prim.Native.Nat.{◌-◌}
 use native.Mathlib.Omega.{arith}

@@ -1,4 +1,4 @@
--- `granules::codewords_of` meets its contract.
+-- `mc_codes::granules::codewords_of` meets its contract.
 use Prim.Native.Nat.{◌-◌}
 use lib.ListN.{get_or}
 use Rattle.fill.proofs.InOrder.{Filling}

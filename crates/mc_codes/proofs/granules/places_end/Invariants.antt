@@ -1,4 +1,4 @@
--- `granules::places_end` meets its contract.
+-- `mc_codes::granules::places_end` meets its contract.
 use mathlib.Core.Path.{◌≡◌}
 use Prim.Native.Nat.{ℕ, ◌-◌, ◌≤◌, ◌<◌}
 use lib.ListN.{get_or}

@@ -1,4 +1,4 @@
--- `granules::read_granule` meets its contract.
+-- `mc_codes::granules::read_granule` meets its contract.
 use mathlib.Core.Path.{refl}
 use Prim.Native.Nat.{◌-◌}
 use native.Mathlib.Omega.{arith}
@@ -24,13 +24,12 @@ read_samples-cursor-requires c = (search width-below, omega arith)
 pub loop-i-preserved : goal.loop-i-preserved
 loop-i-preserved c =
     let l = c.loop-i in
-    let s = c in
-    let read = samples-read s.args.bytes.now s.args.limit s.args.own.now s.args.gr _ l.cursor l.i l.codes l.invariant.3 s.args.end c.loop-i-test.true l.invariant.1 in
-    let skip = samples-skip s.args.bytes.now s.args.limit s.args.own.now s.args.gr _ l.cursor l.i l.codes l.invariant.3 s.args.end c.loop-i-test.true l.invariant.1 in (
+    let read = samples-read c.args.bytes.now c.args.limit c.args.own.now c.args.gr _ l.cursor l.i l.codes l.invariant.3 c.args.end c.loop-i-test.true l.invariant.1 in
+    let skip = samples-skip c.args.bytes.now c.args.limit c.args.own.now c.args.gr _ l.cursor l.i l.codes l.invariant.3 c.args.end c.loop-i-test.true l.invariant.1 in (
       omega arith,
       l.invariant.1,
       elim c.if-own-i-ne0.branch [ then-own-i-ne0 w ↦ search kept-length | else-own-i-ne0 w ↦ search kept-length ],
-      elim c.if-own-i-ne0.branch [ then-own-i-ne0 w ↦ read _ _ w.if-own-i-ne0.true _ s.requires.tables.0 _ s.requires.tables.1 _ _ w.read_samples-cursor.ensures w.codes-is w.cursor-is | else-own-i-ne0 w ↦ skip _ _ w.if-own-i-ne0.false w.codes-is w.cursor-is ],
+      elim c.if-own-i-ne0.branch [ then-own-i-ne0 w ↦ read _ _ w.if-own-i-ne0.true _ c.requires.tables.0 _ c.requires.tables.1 _ _ w.read_samples-cursor.ensures w.codes-is w.cursor-is | else-own-i-ne0 w ↦ skip _ _ w.if-own-i-ne0.false w.codes-is w.cursor-is ],
     )
 
 pub returns : goal.returns

@@ -1,4 +1,4 @@
--- `granules::read_granules` meets its contract.
+-- `mc_codes::granules::read_granules` meets its contract.
 use mathlib.Core.Path.{refl}
 use Prim.Native.Nat.{◌-◌}
 use native.Mathlib.Omega.{arith}

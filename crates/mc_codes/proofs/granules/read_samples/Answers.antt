@@ -1,4 +1,4 @@
--- `granules::read_samples` meets its contract.
+-- `mc_codes::granules::read_samples` meets its contract.
 use native.Mathlib.Omega.{arith}
 use lib.ListN.{length-set}
 use mir.Syntax.{w16}

@@ -1,4 +1,4 @@
--- `payload::read_payload` meets its contract.
+-- `mc_codes::payload::read_payload` meets its contract.
 use Rattle.mc_codes.proofs.PayloadRead.{payload-whole}
 use Rattle.mc_codes.proofs.payload.read_payload.Goals as goal
 

@@ -1,4 +1,4 @@
--- `payload::read_scfsi` meets its contract.
+-- `mc_codes::payload::read_scfsi` meets its contract.
 use mathlib.Core.Path.{◌≡◌}
 use Prim.Native.Nat.{◌-◌, ◌≤◌}
 use Rattle.bits.specs.Syntax.{times}

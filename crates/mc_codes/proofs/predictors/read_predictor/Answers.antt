@@ -1,4 +1,4 @@
--- `predictors::read_predictor` meets its contract.
+-- `mc_codes::predictors::read_predictor` meets its contract.
 use lib.Dec.{lit≤}
 use Rattle.cursor.proofs.CursorLaws.{cur-fits}
 use Rattle.mc_codes.proofs.PredictorsRead.{width-most, predictor-ran}

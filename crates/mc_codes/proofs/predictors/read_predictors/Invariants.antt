@@ -1,4 +1,4 @@
--- `predictors::read_predictors` meets its contract.
+-- `mc_codes::predictors::read_predictors` meets its contract.
 use mathlib.Core.Path.{◌≡◌}
 use Prim.Native.Nat.{◌-◌, ◌≤◌}
 use Rattle.bits.specs.Syntax.{times}

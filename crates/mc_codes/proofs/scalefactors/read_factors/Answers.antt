@@ -1,4 +1,4 @@
--- `scalefactors::read_factors` meets its contract.
+-- `mc_codes::scalefactors::read_factors` meets its contract.
 use Rattle.mc_codes.proofs.FactorsRead.{factors-0, factors-1, factors-2, factors-3}
 use Rattle.mc_codes.proofs.scalefactors.read_factors.Goals as goal
 

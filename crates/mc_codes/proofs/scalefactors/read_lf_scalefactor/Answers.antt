@@ -1,4 +1,4 @@
--- `scalefactors::read_lf_scalefactor` meets its contract.
+-- `mc_codes::scalefactors::read_lf_scalefactor` meets its contract.
 use lib.Dec.{lit<}
 use borrow.Author.Rules.{rules}
 use Rattle.mc_codes.proofs.FactorsRead.{lf-none, lf-read}

@@ -1,4 +1,4 @@
--- `scalefactors::read_scalefactor` meets its contract.
+-- `mc_codes::scalefactors::read_scalefactor` meets its contract.
 use Rattle.mc_codes.proofs.FactorsRead.{factor-ran, factor-small}
 use Rattle.mc_codes.proofs.scalefactors.read_scalefactor.Goals as goal
 

@@ -1,4 +1,4 @@
--- `scalefactors::read_scalefactors` meets its contract.
+-- `mc_codes::scalefactors::read_scalefactors` meets its contract.
 use mathlib.Core.Path.{refl}
 use Prim.Native.Nat.{◌-◌}
 use native.Mathlib.Omega.{arith}

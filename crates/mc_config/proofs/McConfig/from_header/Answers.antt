@@ -1,4 +1,4 @@
--- `McConfig::from_header` meets its contract.
+-- `mc_config::McConfig::from_header` meets its contract.
 use native.Mathlib.Omega.{arith}
 use borrow.Author.Tests.{ne_eqb}
 use Rattle.mc_config.specs.Config.{config_of}

@@ -1,4 +1,4 @@
--- `McConfig::layout` meets its contract.
+-- `mc_config::McConfig::layout` meets its contract.
 use mathlib.Core.Path.{◌≡◌}
 use mathlib.Core.List.{[], ◌∷◌, ◌++◌, append-nil}
 use Prim.Native.Nat.{ℕ, ◌<◌}

@@ -1,4 +1,4 @@
--- `McConfig::main_nmch` meets its contract.
+-- `mc_config::McConfig::main_nmch` meets its contract.
 use mathlib.Core.Path.{◌∙◌, ap}
 use Rattle.mc_config.specs.Config.{main_of}
 use Rattle.mc_config.proofs.McConfig.main_nmch.Goals as goal

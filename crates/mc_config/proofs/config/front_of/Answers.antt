@@ -1,4 +1,4 @@
--- `config::front_of` meets its contract.
+-- `mc_config::config::front_of` meets its contract.
 use mathlib.Core.Logic.{⊎_elim, inl, inr}
 use borrow.Author.Tests.{ne_eqb}
 use Rattle.mc_config.proofs.config.front_of.Goals as goal

@@ -1,4 +1,4 @@
--- `config::widths_of` meets its contract.
+-- `mc_config::config::widths_of` meets its contract.
 use mathlib.Core.Path.{refl}
 use mathlib.Core.Logic.{⊎_elim, inl, inr}
 use Rattle.mc_config.proofs.CaseLaws.{other, by_pair-other}

@@ -1,4 +1,4 @@
--- `layout::front_layout` meets its contract.
+-- `mc_config::layout::front_layout` meets its contract.
 use borrow.Author.Tests.{ne_eqb}
 use Rattle.mc_config.proofs.layout.front_layout.Goals as goal
 

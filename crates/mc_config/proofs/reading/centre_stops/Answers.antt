@@ -1,4 +1,4 @@
--- `reading::centre_stops` meets its contract.
+-- `mc_config::reading::centre_stops` meets its contract.
 use borrow.Author.Tests.{eq-eqb, ne_eqb}
 use Rattle.mc_config.proofs.reading.centre_stops.Goals as goal
 

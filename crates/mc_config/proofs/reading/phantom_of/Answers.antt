@@ -1,4 +1,4 @@
--- `reading::phantom_of` meets its contract.
+-- `mc_config::reading::phantom_of` meets its contract.
 use mathlib.Core.Path.{◌≡◌}
 use mathlib.Core.Bool.{true, false, not}
 use Prim.Native.Nat.{ℕ}

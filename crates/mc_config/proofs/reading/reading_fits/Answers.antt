@@ -1,4 +1,4 @@
--- `reading::reading_fits` meets its contract.
+-- `mc_config::reading::reading_fits` meets its contract.
 use borrow.Author.Tests.{eq-eqb, ne_eqb}
 use Rattle.mc_config.proofs.reading.reading_fits.Goals as goal
 

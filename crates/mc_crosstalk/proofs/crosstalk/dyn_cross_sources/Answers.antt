@@ -1,4 +1,4 @@
--- `crosstalk::dyn_cross_sources` meets its contract: each of its tables is the definition's, with fillers after the rows.
+-- `mc_crosstalk::crosstalk::dyn_cross_sources` meets its contract: each of its tables is the definition's, with fillers after the rows.
 use mathlib.Core.Path.{◌≡◌, sym, ◌∙◌}
 use mathlib.Core.Bool.{cond}
 use mathlib.Core.List.{[], map}

@@ -1,4 +1,4 @@
--- `crosstalk::sources_in` meets its contract.
+-- `mc_crosstalk::crosstalk::sources_in` meets its contract.
 use mathlib.Core.Path.{refl}
 use mathlib.Core.List.{[]}
 use borrow.Author.Tests.{lt-ltb, le-ltb}

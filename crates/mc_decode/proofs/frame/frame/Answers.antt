@@ -1,4 +1,4 @@
--- `mc_decode::frame` meets its contract.
+-- `mc_decode::frame::frame` meets its contract.
 use mathlib.Core.Path.{ap}
 use mathlib.Core.Bool.{not}
 use Rattle.mc_state.specs.Answer.{buffers_from}

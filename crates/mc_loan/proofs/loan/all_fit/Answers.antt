@@ -1,4 +1,4 @@
--- `loan::all_fit` meets its contract.
+-- `mc_loan::loan::all_fit` meets its contract.
 use mathlib.Core.Path.{sym}
 use Prim.Native.Nat.{◌-◌}
 use native.Mathlib.Omega.{arith}

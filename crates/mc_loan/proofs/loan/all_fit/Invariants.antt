@@ -1,4 +1,4 @@
--- `loan::all_fit` meets its contract.
+-- `mc_loan::loan::all_fit` meets its contract.
 use mathlib.Core.Path.{◌≡◌}
 use mathlib.Core.Bool.{true}
 use Prim.Native.Nat.{◌-◌, ◌≤◌}

@@ -1,4 +1,4 @@
--- `loan::entry_at` meets its contract.
+-- `mc_loan::loan::entry_at` meets its contract.
 use mathlib.Core.Path.{sym}
 use lib.ListN.{get_or-eq_default}
 use Rattle.mc_loan.proofs.loan.entry_at.Goals as goal

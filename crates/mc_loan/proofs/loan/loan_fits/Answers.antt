@@ -1,4 +1,4 @@
--- `loan::loan_fits` meets its contract.
+-- `mc_loan::loan::loan_fits` meets its contract.
 use Rattle.mc_loan.proofs.LoanTested.{loan-reading, loan-rate, loan-base, loan-lfe, loan-steps, loan-count, loan-all}
 use Rattle.mc_loan.proofs.loan.loan_fits.Goals as goal
 

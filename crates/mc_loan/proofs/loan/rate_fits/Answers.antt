@@ -1,4 +1,4 @@
--- `loan::rate_fits` meets its contract.
+-- `mc_loan::loan::rate_fits` meets its contract.
 use borrow.Author.Tests.{ne_eqb}
 use Rattle.mc_loan.proofs.loan.rate_fits.Goals as goal
 

@@ -1,4 +1,4 @@
--- `loan::settings` meets its contract.
+-- `mc_loan::loan::settings` meets its contract.
 use Rattle.mc_payload.specs.Unpack.{settings_of}
 use Rattle.mc_loan.proofs.loan.settings.Goals as goal
 

@@ -1,4 +1,4 @@
--- `loan::steps_fit` meets its contract.
+-- `mc_loan::loan::steps_fit` meets its contract.
 use Rattle.mc_payload.proofs.UnpackLaws.{steps-class}
 use Rattle.mc_loan.proofs.loan.steps_fit.Goals as goal
 

@@ -1,4 +1,4 @@
--- `loan::table_64` meets its contract.
+-- `mc_loan::loan::table_64` meets its contract.
 use Prim.Native.Nat.{ℕ, ◌-◌}
 use lib.ListN.{get_or}
 use Rattle.fill.proofs.InOrder.{Filling}

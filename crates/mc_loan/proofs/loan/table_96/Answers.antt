@@ -1,4 +1,4 @@
--- `loan::table_96` meets its contract.
+-- `mc_loan::loan::table_96` meets its contract.
 use mathlib.Core.Path.{refl}
 use Prim.Native.Nat.{◌-◌}
 use native.Mathlib.Omega.{arith}

@@ -1,4 +1,4 @@
--- `output::clear_beyond` meets its contract. The loop writes the places from the first beyond the layout on.
+-- `mc_output::output::clear_beyond` meets its contract. The loop writes the places from the first beyond the layout on.
 use Prim.Native.Nat.{◌-◌}
 use native.Mathlib.Omega.{arith}
 use Rattle.mc_output.proofs.Laws.LayOut.{clearing-starts, clearing-more, clearing-ends}
@@ -10,8 +10,7 @@ loop-k-init c = (omega arith, omega arith, c.requires.0, clearing-starts c.args.
 pub loop-k-preserved : goal.loop-k-preserved
 loop-k-preserved c =
     let l = c.loop-k in
-    let s = c in
-    (omega arith, omega arith, l.invariant.2, clearing-more s.args.channels s.args.output.now l.invariant.2 l.output l.k l.invariant.3 l.invariant.0 c.loop-k-test.true)
+    (omega arith, omega arith, l.invariant.2, clearing-more c.args.channels c.args.output.now l.invariant.2 l.output l.k l.invariant.3 l.invariant.0 c.loop-k-test.true)
 
 pub shape_of-output : goal.shape_of-output
 shape_of-output c = c.loop-k.invariant.3.long
@@ -19,5 +18,4 @@ shape_of-output c = c.loop-k.invariant.3.long
 pub returns : goal.returns
 returns c =
     let l = c.loop-k in
-    let s = c in
-    clearing-ends s.args.channels s.args.output.now l.invariant.2 l.output l.k l.invariant.3 c.loop-k-test.false
+    clearing-ends c.args.channels c.args.output.now l.invariant.2 l.output l.k l.invariant.3 c.loop-k-test.false

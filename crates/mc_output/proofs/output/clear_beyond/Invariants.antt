@@ -1,4 +1,4 @@
--- `output::clear_beyond` meets its contract. The loop writes the places from the first beyond the layout on.
+-- `mc_output::output::clear_beyond` meets its contract. The loop writes the places from the first beyond the layout on.
 use mathlib.Core.Path.{◌≡◌}
 use Prim.Native.Nat.{ℕ, ◌-◌, ◌*◌, ◌≤◌}
 use lib.Ieee.{nan}

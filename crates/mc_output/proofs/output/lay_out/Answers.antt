@@ -1,4 +1,4 @@
--- `output::lay_out` meets its contract.
+-- `mc_output::output::lay_out` meets its contract.
 use mathlib.Core.Path.{sym, ap, ◌∙◌}
 use mathlib.Core.List.{List}
 use lib.Ieee.{Float}
@@ -16,8 +16,7 @@ write_second-requires c =
 
 pub clear_beyond-requires : goal.clear_beyond-requires
 clear_beyond-requires c =
-    let s = c in
-    (elim c.if-x.branch [ then-x w ↦ ap length (w.output-is ∙ w.write_second.ensures) ∙ second-long s.args.x s.args.work.now s.args.output.now | else-x w ↦ ap length w.output-is ∙ s.requires.1 ], s.requires.2)
+    (elim c.if-x.branch [ then-x w ↦ ap length (w.output-is ∙ w.write_second.ensures) ∙ second-long c.args.x c.args.work.now c.args.output.now | else-x w ↦ ap length w.output-is ∙ c.requires.1 ], c.requires.2)
 
 pub shape_of-output : goal.shape_of-output
 shape_of-output c = ap length c.clear_beyond.ensures ∙ (beyond-long _ _ ∙ sym c.requires.1)

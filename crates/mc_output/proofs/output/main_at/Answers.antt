@@ -1,4 +1,4 @@
--- `output::main_at` meets its contract.
+-- `mc_output::output::main_at` meets its contract.
 use borrow.Author.Tests.{lt-ltb, le-ltb}
 use Rattle.mc_output.proofs.output.main_at.Goals as goal
 

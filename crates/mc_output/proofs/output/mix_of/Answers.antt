@@ -1,4 +1,4 @@
--- `output::mix_of` meets its contract.
+-- `mc_output::output::mix_of` meets its contract.
 use mathlib.Core.Path.{ap}
 use Rattle.mc_config.specs.declared.layout.Layout.{Layout}
 use Rattle.mc_output.proofs.output.mix_of.Goals as goal

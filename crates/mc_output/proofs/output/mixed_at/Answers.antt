@@ -1,4 +1,4 @@
--- `output::mixed_at` meets its contract.
+-- `mc_output::output::mixed_at` meets its contract.
 use Rattle.mc_output.proofs.output.mixed_at.Goals as goal
 
 pub returns : goal.returns

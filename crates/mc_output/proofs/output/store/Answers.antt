@@ -1,4 +1,4 @@
--- `output::store` meets its contract. The loop writes one place of each channel.
+-- `mc_output::output::store` meets its contract. The loop writes one place of each channel.
 use Prim.Native.Nat.{◌-◌}
 use borrow.Author.Tests.{lt-ltb, le-ltb}
 use Rattle.mc_scale.proofs.Laws.Strided.{stride-starts, stride-more, stride-ends}

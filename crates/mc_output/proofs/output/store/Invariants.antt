@@ -1,4 +1,4 @@
--- `output::store` meets its contract. The loop writes one place of each channel.
+-- `mc_output::output::store` meets its contract. The loop writes one place of each channel.
 use Prim.Native.Nat.{◌-◌}
 use Rattle.mc_output.specs.Code.OutputByMix.{channel_by}
 use Rattle.mc_scale.proofs.Laws.Strided.{Striding}

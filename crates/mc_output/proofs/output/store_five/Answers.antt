@@ -1,4 +1,4 @@
--- `output::store_five` meets its contract. The loop writes one place of each channel.
+-- `mc_output::output::store_five` meets its contract. The loop writes one place of each channel.
 use mathlib.Core.Path.{refl}
 use Prim.Native.Nat.{◌-◌}
 use native.Mathlib.Omega.{arith}

@@ -1,4 +1,4 @@
--- `output::store_five` meets its contract. The loop writes one place of each channel.
+-- `mc_output::output::store_five` meets its contract. The loop writes one place of each channel.
 use Prim.Native.Nat.{ℕ, ◌-◌}
 use lib.Ieee.{nan}
 use lib.ListN.{get_or}

@@ -1,4 +1,4 @@
--- `output::tcs_of` meets its contract. The loop fills the table in order.
+-- `mc_output::output::tcs_of` meets its contract. The loop fills the table in order.
 use Prim.Native.Nat.{◌-◌}
 use borrow.Author.Rules.{rules}
 use Rattle.fill.proofs.InOrder.{starts, more, ends-all}

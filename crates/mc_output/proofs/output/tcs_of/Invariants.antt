@@ -1,4 +1,4 @@
--- `output::tcs_of` meets its contract. The loop fills the table in order.
+-- `mc_output::output::tcs_of` meets its contract. The loop fills the table in order.
 use Prim.Native.Nat.{ℕ, ◌-◌}
 use lib.ListN.{get_or}
 use Rattle.fill.proofs.InOrder.{Filling}

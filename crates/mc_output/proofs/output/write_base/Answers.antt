@@ -1,4 +1,4 @@
--- `output::write_base` meets its contract. The loop writes all channels of one slot and subband a turn.
+-- `mc_output::output::write_base` meets its contract. The loop writes all channels of one slot and subband a turn.
 use mathlib.Core.Path.{◌∙◌}
 use Prim.Native.Nat.{◌-◌}
 use Rattle.fill.proofs.TabLaws.{all-filled}
@@ -17,10 +17,9 @@ store-requires c = (omega arith, c.loop-j.invariant.1.long ∙ c.requires.2)
 
 pub loop-j-preserved : goal.loop-j-preserved
 loop-j-preserved c =
-    let l = c in
-    let a = l.args in
+    let a = c.args in
     let h = c.loop-j-test.true in
-    (omega arith, rw c.store.ensures (turn-across l.loop-j.invariant.1 h (λ ch q. base-value a.x a.left.now a.right.now l.loop-j.j ch h)))
+    (omega arith, rw c.store.ensures (turn-across c.loop-j.invariant.1 h (λ ch q. base-value a.x a.left.now a.right.now c.loop-j.j ch h)))
 
 pub shape_of-output : goal.shape_of-output
 shape_of-output c = c.loop-j.invariant.1.long

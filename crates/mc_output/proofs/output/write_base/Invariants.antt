@@ -1,4 +1,4 @@
--- `output::write_base` meets its contract. The loop writes all channels of one slot and subband a turn.
+-- `mc_output::output::write_base` meets its contract. The loop writes all channels of one slot and subband a turn.
 use Prim.Native.Nat.{ℕ, ◌-◌, ◌%◌, ◌≤◌}
 use lib.Ieee.{nan}
 use Rattle.fill.proofs.ByTurn.{ByTurn}

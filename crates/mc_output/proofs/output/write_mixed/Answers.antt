@@ -1,4 +1,4 @@
--- `output::write_mixed` meets its contract. The loop writes all channels of one slot and subband a turn.
+-- `mc_output::output::write_mixed` meets its contract. The loop writes all channels of one slot and subband a turn.
 use mathlib.Core.Path.{◌∙◌}
 use Prim.Native.Nat.{◌-◌}
 use Rattle.fill.proofs.TabLaws.{all-filled}

@@ -1,4 +1,4 @@
--- `output::write_output` meets its contract: the base alone, or all channels mixed.
+-- `mc_output::output::write_output` meets its contract: the base alone, or all channels mixed.
 use mathlib.Core.Path.{◌∙◌, ap}
 use lib.Dec.{eqb}
 use lib.ListN.{length}
@@ -13,10 +13,9 @@ use Rattle.mc_output.proofs.output.write_output.Goals as goal
 
 pub write_base-requires : goal.write_base-requires
 write_base-requires c =
-    let s = c in
-    let a = s.args in
-    let long = chosen-long (eqb a.s.base_channels 1) 1 a.left.now a.right.now s.requires.0 s.requires.1 in
-    (s.requires.0, ap length c.second_base-second.ensures ∙ long, s.requires.3)
+    let a = c.args in
+    let long = chosen-long (eqb a.s.base_channels 1) 1 a.left.now a.right.now c.requires.0 c.requires.1 in
+    (c.requires.0, ap length c.second_base-second.ensures ∙ long, c.requires.3)
 
 pub returns-then-x : goal.returns-then-x
 returns-then-x c =
@@ -25,16 +24,14 @@ returns-then-x c =
 
 pub write_mixed-requires : goal.write_mixed-requires
 write_mixed-requires c =
-    let s = c in
-    let a = s.args in
-    let long = chosen-long (eqb a.s.base_channels 1) 1 a.left.now a.right.now s.requires.0 s.requires.1 in
-    (s.requires.0, ap length c.second_base-second.ensures ∙ long, s.requires.2, s.requires.3)
+    let a = c.args in
+    let long = chosen-long (eqb a.s.base_channels 1) 1 a.left.now a.right.now c.requires.0 c.requires.1 in
+    (c.requires.0, ap length c.second_base-second.ensures ∙ long, c.requires.2, c.requires.3)
 
 pub lay_out-requires : goal.lay_out-requires
 lay_out-requires c =
-    let s = c in
     let x = c.mix_of-x in
-    (s.requires.2, ap length c.write_mixed.ensures ∙ mixed-all _ _ _ _ _, rw x.ensures (layout-length (config s.args.s)).1, rw x.ensures (second_fits s.args.s))
+    (c.requires.2, ap length c.write_mixed.ensures ∙ mixed-all _ _ _ _ _, rw x.ensures (layout-length (config c.args.s)).1, rw x.ensures (second_fits c.args.s))
 
 pub returns : goal.returns
 returns c =

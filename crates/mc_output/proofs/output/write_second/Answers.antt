@@ -1,4 +1,4 @@
--- `output::write_second` meets its contract. The loop writes the last two channels, place by place.
+-- `mc_output::output::write_second` meets its contract. The loop writes the last two channels, place by place.
 use Prim.Native.Nat.{◌-◌}
 use native.Mathlib.Omega.{arith}
 use Rattle.mc_output.specs.Code.OutputByMix.{with_second}
@@ -12,12 +12,11 @@ loop-i-init c = (omega arith, c.requires.1, laying-starts c.args.x.channels c.ar
 pub loop-i-preserved : goal.loop-i-preserved
 loop-i-preserved c =
     let l = c.loop-i in
-    let s = c in
     let h = c.loop-i-test.true in
-    let a = s.args in (
+    let a = c.args in (
       omega arith,
       l.invariant.1,
-      elim c.if-i-limit.branch [ then-i-limit w ↦ rw w.output-is (laying-more a.x.channels a.x.main a.x.limit a.work.now a.output.now l.invariant.1 l.output l.i l.invariant.2 h s.requires.3 w.if-i-limit.true) | else-i-limit w ↦ rw w.output-is (laying-skip a.x.channels a.x.main a.x.limit a.work.now a.output.now l.invariant.1 l.output l.i l.invariant.2 w.if-i-limit.false) ],
+      elim c.if-i-limit.branch [ then-i-limit w ↦ rw w.output-is (laying-more a.x.channels a.x.main a.x.limit a.work.now a.output.now l.invariant.1 l.output l.i l.invariant.2 h c.requires.3 w.if-i-limit.true) | else-i-limit w ↦ rw w.output-is (laying-skip a.x.channels a.x.main a.x.limit a.work.now a.output.now l.invariant.1 l.output l.i l.invariant.2 w.if-i-limit.false) ],
     )
 
 pub shape_of-output : goal.shape_of-output

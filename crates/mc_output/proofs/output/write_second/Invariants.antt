@@ -1,4 +1,4 @@
--- `output::write_second` meets its contract. The loop writes the last two channels, place by place.
+-- `mc_output::output::write_second` meets its contract. The loop writes the last two channels, place by place.
 use mathlib.Core.Path.{◌≡◌}
 use Prim.Native.Nat.{ℕ, ◌+◌, ◌-◌, ◌*◌, ◌≤◌}
 use lib.Ieee.{nan}

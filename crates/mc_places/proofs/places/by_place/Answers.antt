@@ -1,4 +1,4 @@
--- `places::by_place` meets its contract.
+-- `mc_places::places::by_place` meets its contract.
 use mathlib.Core.Path.{refl}
 use Prim.Native.Nat.{◌-◌}
 use native.Mathlib.Omega.{arith}

@@ -1,4 +1,4 @@
--- `places::by_place` meets its contract.
+-- `mc_places::places::by_place` meets its contract.
 use Prim.Native.Nat.{◌-◌}
 use Rattle.fill.proofs.InOrder.{Filling}
 use Rattle.mc_payload.specs.Places.{place}

@@ -1,4 +1,4 @@
--- `places::carried` meets its contract.
+-- `mc_places::places::carried` meets its contract.
 use mathlib.Core.Path.{refl}
 use Rattle.mc_places.specs.PlacesBy.{carried_by}
 use Rattle.mc_places.proofs.places.carried.Goals as goal

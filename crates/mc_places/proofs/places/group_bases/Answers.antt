@@ -1,4 +1,4 @@
--- `places::group_bases` meets its contract.
+-- `mc_places::places::group_bases` meets its contract.
 use mathlib.Core.Path.{refl}
 use Prim.Native.Nat.{◌-◌}
 use native.Mathlib.Omega.{arith}

@@ -1,4 +1,4 @@
--- `places::group_bases` meets its contract.
+-- `mc_places::places::group_bases` meets its contract.
 use Prim.Native.Nat.{◌-◌, ◌/◌, ◌%◌}
 use lib.ListN.{get_or}
 use Rattle.fill.proofs.InOrder.{Filling}

@@ -1,4 +1,4 @@
--- `places::group_sources` meets its contract.
+-- `mc_places::places::group_sources` meets its contract.
 use Prim.Native.Nat.{◌-◌, ◌/◌, ◌%◌}
 use Rattle.fill.proofs.InOrder.{Filling}
 use Rattle.mc_fields.specs.Head.{mode_at, second_at}

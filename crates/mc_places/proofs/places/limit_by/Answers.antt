@@ -1,4 +1,4 @@
--- `places::limit_by` meets its contract.
+-- `mc_places::places::limit_by` meets its contract.
 use borrow.Author.Tests.{not-true, not-false}
 use Rattle.mc_places.proofs.PlacesBuilt.{limit-none, limit-plain, limit-first, limit-other}
 use Rattle.mc_places.proofs.places.limit_by.Goals as goal

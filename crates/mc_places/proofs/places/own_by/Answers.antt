@@ -1,4 +1,4 @@
--- `places::own_by` meets its contract.
+-- `mc_places::places::own_by` meets its contract.
 use borrow.Author.Tests.{not-true, not-false}
 use Rattle.mc_places.proofs.PlacesBuilt.{own-none, own-copied, own-sent}
 use Rattle.mc_places.proofs.places.own_by.Goals as goal

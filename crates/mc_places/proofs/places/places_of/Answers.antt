@@ -1,4 +1,4 @@
--- `places::places_of` meets its contract.
+-- `mc_places::places::places_of` meets its contract.
 use Rattle.mc_places.proofs.PlacesLaws.{places-whole}
 use Rattle.mc_places.proofs.PlacesBuilt.{main-pair, sources-small, bases-small}
 use Rattle.mc_places.proofs.places.places_of.Goals as goal

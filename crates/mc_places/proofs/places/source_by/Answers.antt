@@ -1,4 +1,4 @@
--- `places::source_by` meets its contract.
+-- `mc_places::places::source_by` meets its contract.
 use Rattle.mc_places.proofs.PlacesBuilt.{source-main, source_first, source-second, source-copied}
 use Rattle.mc_places.proofs.places.source_by.Goals as goal
 

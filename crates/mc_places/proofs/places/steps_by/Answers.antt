@@ -1,4 +1,4 @@
--- `places::steps_by` meets its contract.
+-- `mc_places::places::steps_by` meets its contract.
 use borrow.Author.Tests.{not-true, not-false}
 use Rattle.mc_places.proofs.PlacesBuilt.{steps-none, steps-own, steps_base, steps-copied}
 use Rattle.mc_places.proofs.places.steps_by.Goals as goal

@@ -1,4 +1,4 @@
--- `roles::base_of` meets its contract.
+-- `mc_roles::roles::base_of` meets its contract.
 use mathlib.Core.Path.{◌∙◌, ap}
 use borrow.Author.Tests.{ne_eqb}
 use lib.ListN.{get_or}

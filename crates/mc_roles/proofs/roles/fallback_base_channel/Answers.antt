@@ -1,4 +1,4 @@
--- `roles::fallback_base_channel` meets its contract.
+-- `mc_roles::roles::fallback_base_channel` meets its contract.
 use mathlib.Core.Path.{◌≡◌}
 use mathlib.Core.Bool.{Bool, cond}
 use mathlib.Core.Logic.{◌⊎◌, ⊎_elim, inl, inr}

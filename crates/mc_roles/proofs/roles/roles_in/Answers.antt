@@ -1,4 +1,4 @@
--- `roles::roles_in` meets its contract.
+-- `mc_roles::roles::roles_in` meets its contract.
 use mathlib.Core.Path.{refl}
 use borrow.Author.Tests.{lt-ltb, le-ltb}
 use lib.ListN.{length}

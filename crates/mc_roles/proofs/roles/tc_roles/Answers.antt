@@ -1,4 +1,4 @@
--- `roles::tc_roles` meets its contract: each of its tables is the definition's, with fillers after the rows.
+-- `mc_roles::roles::tc_roles` meets its contract: each of its tables is the definition's, with fillers after the rows.
 use mathlib.Core.Path.{◌≡◌, sym, ◌∙◌}
 use mathlib.Core.List.{map}
 use Prim.Native.Nat.{ℕ, ◌<◌}

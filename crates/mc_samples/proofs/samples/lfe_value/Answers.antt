@@ -1,4 +1,4 @@
--- `samples::lfe_value` meets its contract.
+-- `mc_samples::samples::lfe_value` meets its contract.
 use borrow.Author.Tests.{ne_eqb}
 use Rattle.mc_values.specs.Values.{lfe_by}
 use Rattle.mc_samples.proofs.samples.lfe_value.Goals as goal

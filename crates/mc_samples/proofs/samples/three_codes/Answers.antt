@@ -1,4 +1,4 @@
--- `samples::three_codes` meets its contract.
+-- `mc_samples::samples::three_codes` meets its contract.
 use Rattle.mc_values.specs.Values.{three_codes}
 use Rattle.mc_samples.proofs.samples.three_codes.Goals as goal
 

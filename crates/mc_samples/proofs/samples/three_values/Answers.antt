@@ -1,4 +1,4 @@
--- `samples::three_values` meets its contract.
+-- `mc_samples::samples::three_values` meets its contract.
 use borrow.Author.Rules.{rules}
 use Rattle.mc_samples.proofs.SamplesWritten.{code-small, three_made}
 use Rattle.mc_samples.proofs.samples.three_values.Goals as goal

@@ -1,4 +1,4 @@
--- `samples::write_lfe` meets its contract.
+-- `mc_samples::samples::write_lfe` meets its contract.
 use Prim.Native.Nat.{◌-◌}
 use native.Mathlib.Omega.{arith}
 use Rattle.fill.proofs.InOrder.{starts, more, ends-all}

@@ -1,4 +1,4 @@
--- `samples::write_lfe` meets its contract.
+-- `mc_samples::samples::write_lfe` meets its contract.
 use Prim.Native.Nat.{◌-◌, ◌*◌}
 use lib.ListN.{get_or}
 use Rattle.fill.proofs.InOrder.{Filling}

@@ -1,4 +1,4 @@
--- `samples::write_place` meets its contract.
+-- `mc_samples::samples::write_place` meets its contract.
 use mathlib.Core.Path.{◌≡◌}
 use Prim.Native.Nat.{◌-◌, ◌+◌, ◌*◌, ◌/◌, ◌%◌, ◌≤◌}
 use lib.ListN.{length}

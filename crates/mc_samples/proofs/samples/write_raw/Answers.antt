@@ -1,4 +1,4 @@
--- `samples::write_raw` meets its contract.
+-- `mc_samples::samples::write_raw` meets its contract.
 use mathlib.Core.Path.{sym, ◌∙◌}
 use Prim.Native.Nat.{◌-◌}
 use native.Mathlib.Omega.{arith}
@@ -11,8 +11,7 @@ loop-i-init c = (omega arith, search written_none)
 
 pub write_place-requires : goal.write_place-requires
 write_place-requires c =
-    let l = c in
-    let p = l.requires in record { place = (own-fits _ (p.1 _ (omega arith)) c.if-n-ne0.true, omega arith, l.loop-i.invariant.1.long); place_fits = p.2.place _ (omega arith) c.if-n-ne0.true }
+    let p = c.requires in record { place = (own-fits _ (p.1 _ (omega arith)) c.if-n-ne0.true, omega arith, c.loop-i.invariant.1.long); place_fits = p.2.place _ (omega arith) c.if-n-ne0.true }
 
 pub loop-i-preserved : goal.loop-i-preserved
 loop-i-preserved c = (omega arith, elim c.if-n-ne0.branch [ then-n-ne0 w ↦ search written-place | else-n-ne0 w ↦ search written-skip ])

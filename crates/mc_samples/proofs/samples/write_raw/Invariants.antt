@@ -1,4 +1,4 @@
--- `samples::write_raw` meets its contract.
+-- `mc_samples::samples::write_raw` meets its contract.
 use Prim.Native.Nat.{◌-◌, ◌≤◌}
 use Rattle.mc_samples.proofs.SamplesWritten.{Written}
 use Rattle.mc_samples.proofs.samples.write_raw.Given as goal

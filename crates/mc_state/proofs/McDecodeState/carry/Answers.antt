@@ -5,10 +5,8 @@ use Rattle.mc_state.proofs.McDecodeState.carry.Lts as lts
 use Rattle.mc_state.proofs.held.held_fits.Reads as held-fits-reads
 use Rattle.mc_state.proofs.McDecodeState.carry.Goals as goal
 
--- src/carry.rt:17:13
 pub returns-then-not-held_fits : goal.returns-then-not-held_fits
 returns-then-not-held_fits c = search (carry-refused, carry-taken)
 
--- src/carry.rt:13:5
 pub returns : goal.returns
 returns c = search (carry-refused, carry-taken)

@@ -1,11 +1,10 @@
--- `McDecodeState::new` meets its contract.
+-- `mc_state::McDecodeState::new` meets its contract.
 use mathlib.Core.Path.{refl}
 use Rattle.mc_state.specs.Frame.{fresh}
 use Rattle.mc_state.proofs.McDecodeState.new.Reads as reads
 use Rattle.mc_state.proofs.McDecodeState.new.Lts as lts
 use Rattle.mc_state.proofs.McDecodeState.new.Goals as goal
 
--- src/state.rt:11:5
 pub returns : goal.returns
 unfolding fresh
 returns c = refl

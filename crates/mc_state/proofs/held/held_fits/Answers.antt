@@ -1,4 +1,4 @@
--- `mc_state::held_fits` meets its contract.
+-- `mc_state::held::held_fits` meets its contract.
 use Rattle.mc_state.proofs.HeldLaws.{fits-lone, fits-layout}
 use Rattle.mc_state.proofs.held.held_fits.Reads as reads
 use Rattle.mc_state.proofs.held.held_fits.Lts as lts
@@ -6,10 +6,8 @@ use Rattle.mc_state.proofs.held.channel_count.Reads as channel-count-reads
 use Rattle.mc_state.proofs.held.is_layout.Reads as is-layout-reads
 use Rattle.mc_state.proofs.held.held_fits.Goals as goal
 
--- src/held.rt:50:9
 pub returns-then-layout-eq0 : goal.returns-then-layout-eq0
 returns-then-layout-eq0 c = search (fits-lone, fits-layout)
 
--- src/held.rt:46:1
 pub returns : goal.returns
 returns c = search (fits-lone, fits-layout)

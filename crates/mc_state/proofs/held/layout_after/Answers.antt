@@ -1,13 +1,11 @@
--- `mc_state::layout_after` meets its contract.
+-- `mc_state::held::layout_after` meets its contract.
 use Rattle.mc_state.proofs.HeldLaws.{after-second, after_first}
 use Rattle.mc_state.proofs.held.layout_after.Reads as reads
 use Rattle.mc_state.proofs.held.layout_after.Lts as lts
 use Rattle.mc_state.proofs.held.layout_after.Goals as goal
 
--- src/held.rt:70:1
 pub returns-then-reading-eq2 : goal.returns-then-reading-eq2
 returns-then-reading-eq2 c = search (after-second, after_first)
 
--- src/held.rt:70:1
 pub returns-else-reading-eq2 : goal.returns-else-reading-eq2
 returns-else-reading-eq2 c = search (after-second, after_first)

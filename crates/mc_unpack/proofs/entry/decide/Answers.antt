@@ -1,4 +1,4 @@
--- `entry::decide` meets its contract.
+-- `mc_unpack::entry::decide` meets its contract.
 use Rattle.mc_unpack.proofs.EntryDecided.{decided-raw, decided-lfe, decided-string, decided-loan, lfe-most, decided-read}
 use Rattle.mc_unpack.proofs.entry.decide.Goals as goal
 

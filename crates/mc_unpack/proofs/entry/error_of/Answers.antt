@@ -1,4 +1,4 @@
--- `entry::error_of` meets its contract.
+-- `mc_unpack::entry::error_of` meets its contract.
 use Rattle.mc_unpack.proofs.EntryAnswer.{number-rest}
 use Rattle.mc_unpack.proofs.entry.error_of.Goals as goal
 

@@ -1,4 +1,4 @@
--- `entry::read_mc_payload` meets its contract.
+-- `mc_unpack::entry::read_mc_payload` meets its contract.
 use borrow.Author.Rules.{rules}
 use Rattle.mc_unpack.proofs.SettledLaws.{own-table, settled-refused, settled-read}
 use Rattle.mc_unpack.proofs.entry.read_mc_payload.Goals as goal

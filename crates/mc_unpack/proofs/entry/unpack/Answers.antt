@@ -1,4 +1,4 @@
--- `entry::unpack` meets its contract.
+-- `mc_unpack::entry::unpack` meets its contract.
 use Rattle.mc_payload.specs.Unpack.{loan_by}
 use Rattle.mc_unpack.proofs.EntryAnswer.{refused-number, refused-after, writers-ready, accepted-after}
 use Rattle.mc_unpack.proofs.entry.unpack.Goals as goal

@@ -1,4 +1,4 @@
--- `values::coef_by` meets its contract.
+-- `mc_values::values::coef_by` meets its contract.
 use borrow.Author.Tests.{lt-ltb, le-ltb}
 use Rattle.mc_values.specs.Values.{coef_by}
 use Rattle.mc_values.proofs.values.coef_by.Goals as goal

@@ -1,4 +1,4 @@
--- `values::coefs` meets its contract.
+-- `mc_values::values::coefs` meets its contract.
 use mathlib.Core.Path.{refl}
 use Prim.Native.Nat.{◌-◌}
 use native.Mathlib.Omega.{arith}

@@ -1,4 +1,4 @@
--- `values::coefs` meets its contract.
+-- `mc_values::values::coefs` meets its contract.
 use Prim.Native.Nat.{◌-◌}
 use Rattle.fill.proofs.InOrder.{Filling}
 use Rattle.mc_values.specs.Values.{coefs_in}

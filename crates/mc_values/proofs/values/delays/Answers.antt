@@ -1,4 +1,4 @@
--- `values::delays` meets its contract.
+-- `mc_values::values::delays` meets its contract.
 use mathlib.Core.Path.{refl}
 use Prim.Native.Nat.{◌-◌}
 use native.Mathlib.Omega.{arith}

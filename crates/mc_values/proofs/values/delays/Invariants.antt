@@ -1,4 +1,4 @@
--- `values::delays` meets its contract.
+-- `mc_values::values::delays` meets its contract.
 use Prim.Native.Nat.{◌-◌}
 use Rattle.fill.proofs.InOrder.{Filling}
 use Rattle.mc_values.specs.Values.{delays_in}

@@ -1,4 +1,4 @@
--- `values::group_coefs` meets its contract.
+-- `mc_values::values::group_coefs` meets its contract.
 use Prim.Native.Nat.{◌-◌, ◌+◌, ◌*◌}
 use Rattle.fill.proofs.InOrder.{Filling}
 use Rattle.fill.specs.Tab.{tab}

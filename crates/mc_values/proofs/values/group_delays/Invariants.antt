@@ -1,4 +1,4 @@
--- `values::group_delays` meets its contract.
+-- `mc_values::values::group_delays` meets its contract.
 use Prim.Native.Nat.{◌-◌, ◌+◌, ◌*◌}
 use lib.ListN.{get_or}
 use Rattle.fill.proofs.InOrder.{Filling}

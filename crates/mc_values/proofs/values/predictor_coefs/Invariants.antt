@@ -1,4 +1,4 @@
--- `values::predictor_coefs` meets its contract.
+-- `mc_values::values::predictor_coefs` meets its contract.
 use Prim.Native.Nat.{◌-◌}
 use Rattle.fill.proofs.InOrder.{Filling}
 use Rattle.mc_values.specs.Values.{coef_by}

@@ -1,4 +1,4 @@
--- `part_tables::tables::pack_tables` meets its contract.
+-- `part_tables::pack::pack_tables` meets its contract.
 use Rattle.part_tables.proofs.PayloadLaws.{packs-accepted, packs-refused}
 use Rattle.part_tables.proofs.pack.pack_tables.Goals as goal
 

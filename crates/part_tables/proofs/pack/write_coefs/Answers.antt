@@ -1,4 +1,4 @@
--- `part_tables::tables::write_coefs` meets its contract.
+-- `part_tables::pack::write_coefs` meets its contract.
 use mathlib.Core.Path.{refl, ◌∙◌}
 use Prim.Native.Nat.{◌-◌}
 use native.Mathlib.Omega.{arith}

@@ -1,4 +1,4 @@
--- `part_tables::tables::write_coefs` meets its contract.
+-- `part_tables::pack::write_coefs` meets its contract.
 use mathlib.Core.List.{[]}
 use Prim.Native.Nat.{ℕ, ◌-◌, ◌/◌, ◌%◌}
 use Rattle.fill.proofs.InOrder.{Filling}

@@ -1,4 +1,4 @@
--- `part_tables::tables::write_scfsi` meets its contract.
+-- `part_tables::pack::write_scfsi` meets its contract.
 use Prim.Native.Nat.{ℕ, ◌-◌}
 use Rattle.fill.proofs.InOrder.{Filling}
 use lib.ListN.{get_or}

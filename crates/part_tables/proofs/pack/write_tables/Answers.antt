@@ -1,4 +1,4 @@
--- `part_tables::tables::write_tables` meets its contract.
+-- `part_tables::pack::write_tables` meets its contract.
 use Rattle.part_tables.proofs.PayloadLaws.{writes-accepted, writes-refused}
 use Rattle.part_tables.proofs.pack.write_tables.Goals as goal
 

@@ -1,4 +1,4 @@
--- `Layout::push` meets its contract.
+-- `mc_config::layout::Layout::push` meets its contract.
 use mathlib.Core.Path.{sym}
 use mathlib.Core.List.{[], ◌∷◌}
 use Prim.Native.Nat.{◌<◌}

@@ -1,4 +1,4 @@
--- `Roles::role` meets its contract.
+-- `mc_roles::roles::Roles::role` meets its contract.
 use mathlib.Core.Path.{◌≡◌, sym}
 use native.Mathlib.Omega.{arith}
 use borrow.Author.Rules.{rules}
