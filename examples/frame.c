@@ -25,9 +25,9 @@ static void read_frame(size_t head_bits)
     if (mc_refusal(answer) != MC_ACCEPTED)
         printf("refusal %u\n", mc_refusal(answer));
     else
-        printf("accepted: %" PRIu32 " head bits, %" PRIu32 " payload bits, %u channels, "
-               "left %g, right %g\n", mc_head_used(answer), mc_payload_used(answer),
-               state.layout_len, output[0], output[36 * 32]);
+        printf("accepted: %" PRIu32 " head bits, %" PRIu32 " payload bits, %" PRIu32 " excess codes, "
+               "%u channels, left %g, right %g\n", mc_head_used(answer), mc_payload_used(answer),
+               mc_excess_codes(answer), state.layout_len, output[0], output[36 * 32]);
 }
 
 int main(void)

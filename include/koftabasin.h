@@ -2,15 +2,18 @@
  *
  * `tools/staticlib mc_frame` at the repository's root proves the reader and makes
  * target/staticlib/libmc_frame.a, which has mc_fresh_state_desks, mc_carry_state_desks,
- * mc_convert_state and mc_decode_frame_desks. They allocate nothing, keep nothing between calls but what
- * is in the state, and may run in several threads on different states and buffers. "Refusal N" is a
+ * mc_convert_state and mc_decode_frame_excess. They allocate nothing, keep nothing between calls but
+ * what is in the state, and may run in several threads on different states and buffers. "Refusal N" is a
  * number of the table below.
  *
- * mc_fresh_state_layout, mc_fresh_state, mc_carry_state, mc_decode_frame_layout,
- * mc_decode_frame_reading and mc_decode_frame are the names of before there were desks: here they are
- * inline calls, those that read a frame for desk 0, so that older sources compile as they are, but that
- * `accepted` is an array now. The library has no symbols of these names, so an object that was compiled
- * against an older header, whose state is 32 bytes shorter, does not link.
+ * Older names are inline calls here: mc_decode_frame_desks, of before excess codes were counted; and of
+ * before there were desks mc_fresh_state_layout, mc_fresh_state, mc_carry_state, mc_decode_frame_layout,
+ * mc_decode_frame_reading and mc_decode_frame, those that read a frame for desk 0. Older sources compile
+ * as they are, but that `accepted` is an array now, and the functions on an answer give them what they
+ * gave before. A source that takes bits 32 to 63 of an accepted frame's answer by its own shift has to
+ * call mc_payload_used instead: bits 52 to 63 are mc_excess_codes now. The library has no symbols of the
+ * older names, so an object that calls one of them, compiled against an older header, whose answer is
+ * laid out otherwise and whose state may be 32 bytes shorter, does not link.
  *
  * A slice is a pointer and, right after it, the number of its elements. The pointer is not null and is
  * aligned, even where the number is 0; the memory is the caller's, and the call keeps no pointer to it.
@@ -121,7 +124,7 @@ uint32_t mc_convert_state(McDecodeState *state, const double *pred_hist, size_t 
  * nine scaled slots into state->pred_hist.
  *
  * Returns one number: see the functions below. */
-uint64_t mc_decode_frame_desks(McDecodeState *state,
+uint64_t mc_decode_frame_excess(McDecodeState *state,
     const uint8_t *head, size_t head_len, size_t head_bits,
     const uint8_t *payload, size_t payload_len, size_t payload_bits,
     uint32_t reading, uint32_t desk, uint32_t rate, uint8_t base_channels,
@@ -132,6 +135,26 @@ uint64_t mc_decode_frame_desks(McDecodeState *state,
     const uint32_t *nb_steps, size_t nb_steps_len,
     double *raw, size_t raw_len, double *work, size_t work_len,
     double *output, size_t output_len, double *lfe, size_t lfe_len);
+
+/* The same by its name of before excess codes were counted. */
+static inline uint64_t mc_decode_frame_desks(McDecodeState *state,
+    const uint8_t *head, size_t head_len, size_t head_bits,
+    const uint8_t *payload, size_t payload_len, size_t payload_bits,
+    uint32_t reading, uint32_t desk, uint32_t rate, uint8_t base_channels,
+    const double *raw_left, size_t raw_left_len, const double *raw_right, size_t raw_right_len,
+    const double *scaled_left, size_t scaled_left_len,
+    const double *scaled_right, size_t scaled_right_len,
+    const uint32_t *base_nb_steps, size_t base_nb_steps_len, uint8_t lfe_allocation,
+    const uint32_t *nb_steps, size_t nb_steps_len,
+    double *raw, size_t raw_len, double *work, size_t work_len,
+    double *output, size_t output_len, double *lfe, size_t lfe_len)
+{
+    return mc_decode_frame_excess(state, head, head_len, head_bits, payload, payload_len, payload_bits,
+        reading, desk, rate, base_channels, raw_left, raw_left_len, raw_right, raw_right_len,
+        scaled_left, scaled_left_len, scaled_right, scaled_right_len,
+        base_nb_steps, base_nb_steps_len, lfe_allocation, nb_steps, nb_steps_len,
+        raw, raw_len, work, work_len, output, output_len, lfe, lfe_len);
+}
 
 /* The same for desk 0: the call as it was before there were desks. */
 static inline uint64_t mc_decode_frame_layout(McDecodeState *state,
@@ -221,8 +244,16 @@ static inline unsigned mc_refusal(uint64_t answer) { return (unsigned)(answer & 
 /* Bits 8 to 31 of an accepted frame: bits used of the head. */
 static inline uint32_t mc_head_used(uint64_t answer) { return (uint32_t)(answer >> 8 & 0xFFFFFF); }
 
-/* Bits 32 to 63 of an accepted frame: bits used of the payload. */
-static inline uint32_t mc_payload_used(uint64_t answer) { return (uint32_t)(answer >> 32); }
+/* Bits 32 to 51 of an accepted frame: bits used of the payload. */
+static inline uint32_t mc_payload_used(uint64_t answer) { return (uint32_t)(answer >> 32 & 0xFFFFF); }
+
+/* Bits 52 to 63 of an accepted frame: group codes with an excess, at most 1080. At a refusal they are 0.
+ *
+ * A class of 3, 5 or 9 steps has one group code of 5, 7 or 10 bits for three samples, whose own codes are
+ * its three lowest digits to the base of the steps (ISO/IEC 11172-3, 2.4.3.3.4). A group code from the
+ * cube of the steps on, 27, 125 or 729, holds more than these digits, its excess, and writes the same
+ * samples as the code less the cube. */
+static inline uint32_t mc_excess_codes(uint64_t answer) { return (uint32_t)(answer >> 52); }
 
 /* Bits 8 to 31 of refusal 2: the lowest subband group, 0 to 11, whose code is unlisted. */
 static inline uint32_t mc_sbgr(uint64_t answer) { return (uint32_t)(answer >> 8 & 0xFFFFFF); }

@@ -35,16 +35,19 @@ impl Flat {
     }
 }
 
-/// An answer as the library packs it: the refusal's number in bits 0 to 7; used head bits or the group
-/// in bits 8 to 31; used payload bits or the code in bits 32 to 63.
+/// An answer as the library packs it. Accepted: used head bits in bits 8 to 31, used payload bits in bits
+/// 32 to 51, group codes with an excess in bits 52 to 63. Refused: the number in bits 0 to 7, the group in
+/// bits 8 to 31, the code in bits 32 to 63.
 pub fn packed(answer: &Result<FrameOutput, Refusal>) -> u64 {
-    let (number, low, high) = match answer {
-        Ok(frame) => (0, frame.span.head_used, frame.span.payload_used),
-        Err(refusal) => (
-            refusal.number,
-            u64::from(refusal.group),
-            u64::from(refusal.code),
-        ),
-    };
-    u64::from(number) | low << 8 | high << 32
+    match answer {
+        Ok(frame) => {
+            let (head, payload) = (frame.span.head_used, frame.span.payload_used);
+            head << 8 | payload << 32 | u64::from(frame.excesses.codes()) << 52
+        }
+        Err(refusal) => {
+            let [number, group, code] =
+                [refusal.number, refusal.group, refusal.code].map(u64::from);
+            number | group << 8 | code << 32
+        }
+    }
 }

@@ -9,6 +9,7 @@ include!(concat!(env!("OUT_DIR"), "/published.rs"));
 
 pub mod bits;
 pub mod desks;
+pub mod excess;
 pub mod flat;
 pub mod generator;
 pub mod held;
@@ -24,6 +25,8 @@ pub mod sample;
 pub mod scope;
 pub mod trail;
 
+use excess::Excesses;
+
 pub use input::FrameInput;
 pub use mc::{
     McDecodeState, McError, reference_centre, reference_head, reference_payload, reference_places,
@@ -32,18 +35,21 @@ pub use mc::{
 pub use output::{FrameOutput, HeadOutput, PayloadOutput, Places, SpanOutput};
 
 /// Reads a frame: its head and its payload by themselves, so that every value on the way is at hand,
-/// and the whole span. A refusal by any part is the span's refusal. At `ConfigChanged` the state has
-/// this frame's history, as in the published code; at any other refusal it is as it was.
+/// and the whole span; and the excesses of its group codes, which the published code drops. A refusal by
+/// any part is the span's refusal. At `ConfigChanged` the state has this frame's history, as in the
+/// published code; at any other refusal it is as it was.
 pub fn reference_frame(
     input: &FrameInput,
     state: &mut McDecodeState,
 ) -> Result<FrameOutput, McError> {
     let head = reference_head(&input.head, input.head_bits, input.base_channels)?;
     let payload = reference_payload(input)?;
+    let excesses = Excesses::read(input, &reference_places(input)?, payload.used);
     let span = reference_span(input, state)?;
     Ok(FrameOutput {
         head,
         payload,
         span,
+        excesses,
     })
 }

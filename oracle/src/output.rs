@@ -2,6 +2,7 @@
 
 use crate::audio_data::Scfsi;
 use crate::bitalloc::NUM_SUBBANDS;
+use crate::excess::Excesses;
 use crate::input::Slots;
 use crate::mc::{McChannel, McConfig, McHeader};
 
@@ -103,4 +104,6 @@ pub struct FrameOutput {
     pub head: HeadOutput,
     pub payload: PayloadOutput,
     pub span: SpanOutput,
+    /// Not the span's, which drops them.
+    pub excesses: Excesses,
 }

@@ -66,6 +66,14 @@ fn barred(reading: u32) -> Plan {
     plan
 }
 
+/// 3 steps in one place, whose first group code is `code`.
+fn group_code(code: u32) -> Plan {
+    let mut plan = plan(2, 1, 2, 0.25);
+    plan.payload.steps[0][0] = 3;
+    plan.payload.codes[0][0][0][0] = code;
+    plan
+}
+
 fn bits_equal(left: &[Slots], right: &[Slots]) -> bool {
     let bits = |channels: &[Slots]| -> Vec<u64> {
         let values = channels.iter().flatten().flatten();
@@ -253,6 +261,13 @@ fn wrong_states(lines: &mut Lines) {
     }
 }
 
+fn group_codes(lines: &mut Lines) {
+    for code in [26, 27, 31] {
+        let name = format!("group code {code} of 3 steps");
+        let _ = lines.line(&name, &group_code(code), &mut State::fresh());
+    }
+}
+
 #[test]
 fn each_line_is_what_the_published_rust_answers() {
     let mut lines = Lines::default();
@@ -266,6 +281,7 @@ fn each_line_is_what_the_published_rust_answers() {
     wrong_states(&mut lines);
     desks(&mut lines);
     conversions(&mut lines);
+    group_codes(&mut lines);
     let expected = include_str!("../../crates/boundary/stdout");
     let expected: Vec<&str> = expected.lines().collect();
     assert_eq!(lines.0, expected);

@@ -36,7 +36,7 @@ fn outline(bytes: &[u8]) -> Vec<String> {
     lines.map(str::to_string).collect()
 }
 
-const ACCEPTED: &str = "L - 35 head bits, 0 payload bits";
+const ACCEPTED: &str = "L - 35 head bits, 0 payload bits, 0 excess codes";
 const WRONG: &str =
     "6, a bit count, reading, rate, LFE allocation, base step count or layout is wrong";
 

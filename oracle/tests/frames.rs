@@ -152,6 +152,7 @@ fn parts_agree(frame: &FrameOutput, seed: u64) {
         head,
         payload,
         span,
+        ..
     } = frame;
     assert_eq!(span.head_used, head.used, "seed {seed}");
     assert_eq!(span.payload_used, payload.used, "seed {seed}");

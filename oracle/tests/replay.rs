@@ -1,6 +1,7 @@
 //! The list for the crate `replay` is what it says it is, and reaches what it is to reach.
 
 use oracle::desks::before_what;
+use oracle::excess::GROUPED;
 use oracle::flat::packed;
 use oracle::generator::damage::{WRONG_DESKS, WRONG_READINGS};
 use oracle::generator::layout::STEPS;
@@ -161,6 +162,25 @@ fn refusals_of_readings_and_desks() {
     let wanted = [(6, 6), (14, 0), (14, 1), (14, 5), (14, 7), (14, 13)].into();
     assert!(beside.is_superset(&wanted), "{beside:?}");
     assert!(layouts >= 5, "{layouts}");
+}
+
+/// Excess codes of each class under each reading. The answer's last twelve bits are their number, and 0 in
+/// a refusal.
+#[test]
+fn excess_codes_of_every_class() {
+    let mut frames = BTreeMap::new();
+    judged(|judged| {
+        let (reading, number) = (judged.input.reading, judged.record.expected.answer >> 52);
+        let codes = judged.frame.map_or([0; 3], |frame| frame.excesses.by_class);
+        assert_eq!(number, codes.iter().sum::<u32>().into());
+        for (steps, codes) in GROUPED.into_iter().zip(codes) {
+            if codes > 0 {
+                *frames.entry((reading, steps)).or_insert(0) += 1;
+            }
+        }
+    });
+    assert_eq!(frames.len(), READINGS.len() * GROUPED.len());
+    assert!(frames.values().all(|&count| count >= 20), "{frames:?}");
 }
 
 #[test]

@@ -1,12 +1,16 @@
-//! What a call answers: the used bits or the refusal.
+//! What a call answers: used bits and excess codes, or the refusal.
 
 use core::fmt;
 
-/// How many bits of each string an accepted frame used.
+/// What an accepted frame used of its strings, and how many of its group codes have an excess.
 #[derive(Debug, Clone, Copy, PartialEq, Eq, Hash)]
 pub struct Used {
     pub head_bits: u32,
     pub payload_bits: u32,
+    /// At most 1,080. A class of 3, 5 or 9 steps has one group code for three samples; from the cube of
+    /// the steps on it holds more than their digits, an excess, and writes the same samples as the code
+    /// less the cube.
+    pub excess_codes: u32,
 }
 
 /// Why a frame is refused.
@@ -97,7 +101,8 @@ impl Answer {
             0 => {
                 return Ok(Used {
                     head_bits: low,
-                    payload_bits: high,
+                    payload_bits: high & 0xF_FFFF,
+                    excess_codes: high >> 20,
                 });
             }
             1 => McError::UnexpectedEnd,

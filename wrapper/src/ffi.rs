@@ -24,7 +24,7 @@ unsafe extern "C" {
         accepted: u32,
     ) -> u32;
 
-    pub fn mc_decode_frame_desks(
+    pub fn mc_decode_frame_excess(
         state: *mut McDecodeState,
         head: *const u8,
         head_len: usize,

@@ -35,7 +35,7 @@
 //! };
 //! let mut state = McState::new();
 //! let used = decode(&mut state, &frame, &mut buffers)?;
-//! assert_eq!((used.head_bits, used.payload_bits), (35, 0));
+//! assert_eq!((used.head_bits, used.payload_bits, used.excess_codes), (35, 0, 0));
 //! assert_eq!(state.accepted(), &[0, 0, 0, 1, 0, 0, 0, 0]);
 //! assert_eq!(output[0], 0.25);
 //! # Ok::<(), koftabasin::McError>(())
@@ -227,7 +227,7 @@ pub fn decode_packed(state: &mut McState, frame: &Frame<'_>, buffers: &mut Buffe
     // borrowed mutably and so overlaps nothing, and the library takes any lengths and numbers.
     #[rustfmt::skip]
     let answer = unsafe {
-        ffi::mc_decode_frame_desks(
+        ffi::mc_decode_frame_excess(
             &mut state.0,
             frame.head.as_ptr(), frame.head.len(), frame.head_bits,
             frame.payload.as_ptr(), frame.payload.len(), frame.payload_bits,

@@ -22,6 +22,7 @@ fn smallest_frame_is_accepted_under_both_readings() {
         let used = Used {
             head_bits: 35,
             payload_bits: 0,
+            excess_codes: 0,
         };
         assert_eq!(lent.decode(&mut state), Ok(used));
         let [raw, work, output, lfe] = &lent.written;
@@ -60,6 +61,8 @@ fn unlisted_crosstalk_code() {
         lent.head[bit / 8] |= 0x80 >> (bit % 8);
     }
     lent.head_bits = 87;
+    let answer = lent.decode_packed(&mut McState::new());
+    assert_eq!(answer, Answer(15 << 32 | 1 << 8 | 2));
     refused(lent, McError::ForbiddenDynCrossMode { sbgr: 1, mode: 15 });
 }
 
@@ -117,6 +120,7 @@ fn phantom_centre_over_a_mono_base_bars_under_reading_1_alone() {
     let used = Used {
         head_bits: 35,
         payload_bits: 128,
+        excess_codes: 0,
     };
     assert_eq!(lent.decode(&mut state), Ok(used));
     let second_left = &lent.written[2][1152..2 * 1152];
@@ -180,8 +184,10 @@ fn answers_and_words() {
     let used = Used {
         head_bits: 232,
         payload_bits: 55_134,
+        excess_codes: 1_080,
     };
-    assert_eq!(Answer(55_134 << 32 | 232 << 8).result(), Ok(used));
+    let number = 1_080 << 52 | 55_134 << 32 | 232 << 8;
+    assert_eq!(Answer(number).result(), Ok(used));
     for number in [1, 2, 3, 4, 5, 6, 7, 8, 13, 14] {
         let answer = if number == 2 {
             15 << 32 | 11 << 8 | 2
@@ -196,4 +202,35 @@ fn answers_and_words() {
     let words = "crosstalk code 15 in subband group 11 is not listed for this layout";
     assert_eq!(forbidden.to_string(), words);
     assert_eq!(McError::InvalidDesk.to_string(), "the desk is above 7");
+}
+
+/// Each field from 0 to all its bits, beside the others at theirs.
+#[test]
+fn fields_of_an_accepted_answer() {
+    for head_bits in [0, 1, 232, 65_536, 0xFF_FFFF] {
+        for payload_bits in [0, 1, 55_134, 65_536, 0xF_FFFF] {
+            for excess_codes in [0, 1, 1_080, 1_152, 4_095] {
+                let used = Used {
+                    head_bits,
+                    payload_bits,
+                    excess_codes,
+                };
+                let high = u64::from(excess_codes << 20 | payload_bits);
+                let answer = Answer(high << 32 | u64::from(head_bits) << 8);
+                assert_eq!(answer.result(), Ok(used));
+            }
+        }
+    }
+}
+
+/// A refusal's code has bits 32 to 63.
+#[test]
+fn group_and_code_of_a_refused_answer() {
+    for sbgr in [0, 1, 11, 0xFF_FFFF] {
+        for mode in [0, 1, 15, 0xF_FFFF, 0x10_0000, u32::MAX] {
+            let answer = Answer(u64::from(mode) << 32 | u64::from(sbgr) << 8 | 2);
+            let error = McError::ForbiddenDynCrossMode { sbgr, mode };
+            assert_eq!(answer.result(), Err(error));
+        }
+    }
 }

@@ -5,7 +5,7 @@ use Rattle.std.specs.Float.Ieee.{of_bits, neg}
 use Rattle.fill.specs.Tab.{tab}
 use Rattle.boundary_run.specs.declared.loan.Loan.{Loan}
 use Rattle.boundary_run.specs.declared.string.Bits.{Bits}
-use Rattle.boundary_run.specs.String.{nothing, bytes_of}
+use Rattle.boundary_run.specs.String.{nothing, field_of, fields_of, bytes_of}
 use Rattle.boundary_run.specs.Loan.{step_at, byte_from, ones_at}
 use Rattle.boundary.specs.Heads.{written, plain_head, crossed_head, longest_head}
 
@@ -57,11 +57,18 @@ three_one left = empty (plain_head 1 1 3 0 0) left
 abbrev pub two_two : Float → Loan
 two_two left = empty (plain_head 0 2 2 0 0) left
 
--- 7 steps in one place: scfsi 0, two scalefactors 0 and this one, and twelve granules of three samples of 3 bits
+-- 3/2 with a step count in one place; the payload has so many bits, first these and then zeros
+abbrev pub one_place : ℕ → Bits → ℕ → Loan
+one_place count start payload_bits =
+    let head = plain_head 1 2 3 0 0 in lent 1 head head.at (payload_of start) payload_bits 2 quarter 0 (first_steps 1 1 count)
+
+-- 7 steps: scfsi 0, two scalefactors 0 and this one, and twelve granules of three samples of 3 bits
 abbrev pub scalefactor_frame : ℕ → Loan
-scalefactor_frame code =
-    let head = plain_head 1 2 3 0 0 in
-    lent 1 head head.at (payload_of (written nothing ((2, 0) ∷ (6, 0) ∷ (6, 0) ∷ (6, code) ∷ []))) 128 2 quarter 0 (first_steps 1 1 7)
+scalefactor_frame code = one_place 7 (written nothing ((2, 0) ∷ (6, 0) ∷ (6, 0) ∷ (6, code) ∷ [])) 128
+
+-- 3 steps: scfsi 0, three scalefactors 0, this group code, and eleven more granules of one of 5 bits, which is 0
+abbrev pub group_code_frame : ℕ → Loan
+group_code_frame code = one_place 3 (field_of (fields_of (field_of nothing 2 0) 3 6 0) 5 code) 80
 
 -- this LFE scalefactor, and twelve LFE codes of 2 bits
 abbrev pub lfe_frame : ℕ → Loan

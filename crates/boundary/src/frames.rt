@@ -1,6 +1,6 @@
 // The frames.
 ghost use Rattle.std.specs.Prelude.{◌≡◌};
-ghost use Rattle.boundary.specs.Frames.{three_two, three_one, two_two, scalefactor_frame, lfe_frame, longest_frame, phantom_frame, mono_surround, forbidden_frame, layer_three, barred_frame, centre_frame};
+ghost use Rattle.boundary.specs.Frames.{three_two, three_one, two_two, one_place, scalefactor_frame, group_code_frame, lfe_frame, longest_frame, phantom_frame, mono_surround, forbidden_frame, layer_three, barred_frame, centre_frame};
 
 use crate::heads::{crossed_head, longest_head, plain_head};
 use boundary_run::{Bits, Loan, bytes, first_steps, payload_from, payload_of_ones};
@@ -30,6 +30,20 @@ pub fn two_two(left: f64) -> Loan
     loan
 }
 
+// 3/2 with this step count in one place; the payload has so many bits, first these and then zeros.
+fn one_place(count: u32, start: Bits, payload_bits: usize) -> Loan
+    ensures { result ≡ one_place count start payload_bits }
+{
+    let bits = start.bits;
+    let payload = payload_from(&bytes(&bits));
+    let steps = first_steps(1, 1, count);
+    let mut loan = Loan::new(plain_head(1, 2, 3, 0, 0));
+    loan.payload = payload;
+    loan.payload_bits = payload_bits;
+    loan.steps = steps;
+    loan
+}
+
 // 3/2 with 7 steps in one place, whose last scalefactor is `code`.
 pub fn scalefactor(code: u32) -> Loan
     ensures { result ≡ scalefactor_frame code }
@@ -39,15 +53,20 @@ pub fn scalefactor(code: u32) -> Loan
         .field(6, 0)
         .field(6, 0)
         .field(6, code);
-    let bits = start.bits;
-    let payload = payload_from(&bytes(&bits));
-    let steps = first_steps(1, 1, 7);
-    let mut loan = Loan::new(plain_head(1, 2, 3, 0, 0));
-    loan.payload = payload;
     // 12 granules of three samples of 3 bits
-    loan.payload_bits = 20 + 12 * 9;
-    loan.steps = steps;
-    loan
+    one_place(7, start, 20 + 12 * 9)
+}
+
+// 3/2 with 3 steps in one place, whose first group code is `code`.
+pub fn group_code(code: u32) -> Loan
+    ensures { result ≡ group_code_frame code }
+{
+    let start = Bits::new()
+        .field(2, 0) // scfsi: three scalefactors
+        .fields(3, 6, 0)
+        .field(5, code);
+    // 12 granules of one code of 5 bits
+    one_place(3, start, 20 + 12 * 5)
 }
 
 // 3/2 with an LFE allocation of 1 (2 bits to a sample) and this LFE scalefactor.

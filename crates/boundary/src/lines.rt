@@ -4,8 +4,8 @@ ghost use Rattle.mc_state.specs.Carry.{carried_over};
 ghost use Rattle.boundary_run.specs.Run.{after_run};
 
 use crate::frames::{
-    barred, centre_code, forbidden, layer_three, lfe_scalefactor, longest, mono_surround, phantom,
-    scalefactor, three_one, three_two, two_two,
+    barred, centre_code, forbidden, group_code, layer_three, lfe_scalefactor, longest,
+    mono_surround, phantom, scalefactor, three_one, three_two, two_two,
 };
 use crate::print::{say_carried, say_found};
 use boundary_look::{holds_until, second_is_first, third_is_silent};
@@ -247,4 +247,12 @@ pub fn carry_lines(out: &mut Out<impl Print>) {
         5,
         31,
     );
+}
+
+// Group codes on both sides of the cube of their step count, which is 27.
+pub fn group_code_lines(out: &mut Out<impl Print>) {
+    let fresh = McDecodeState::new();
+    line(out, b"group code 26 of 3 steps", group_code(26), fresh);
+    line(out, b"group code 27 of 3 steps", group_code(27), fresh);
+    line(out, b"group code 31 of 3 steps", group_code(31), fresh);
 }

@@ -1,6 +1,6 @@
 // Runs the boundary frames of document 01 that are executed, each of the ten refusals, centre code 2 and the phantom centre under both readings,
-// changes of reading with and without carrying, desks and conversion, and writes a line on each: what the call answered, and what became of the buffers
-// and of the state.
+// changes of reading with and without carrying, desks and conversion, and group codes with and without an excess, and writes a line on each: what the
+// call answered, and what became of the buffers and of the state.
 #![tactic(auto)]
 
 mod desks;
@@ -11,8 +11,8 @@ mod print;
 
 use desks::{convert_lines, desk_lines};
 use lines::{
-    carry_lines, layout_lines, mono_lines, phantom_lines, reading_lines, refusal_lines,
-    string_lines,
+    carry_lines, group_code_lines, layout_lines, mono_lines, phantom_lines, reading_lines,
+    refusal_lines, string_lines,
 };
 use program_out::Out;
 use std::io;
@@ -28,5 +28,6 @@ fn main(rt: HostRuntime) -> io::Result<()> {
     carry_lines(&mut out);
     desk_lines(&mut out);
     convert_lines(&mut out);
+    group_code_lines(&mut out);
     out.end()
 }

@@ -13,7 +13,11 @@ fn say_answer(out: &mut Out<impl Print>, answer: Told) {
     let first = answer.first;
     let second = answer.second;
     if number == 0 {
-        write!(out, "accepted, {first} head bits, {second} payload bits");
+        let third = answer.third;
+        write!(
+            out,
+            "accepted, {first} head bits, {second} payload bits, {third} excess codes"
+        );
     } else {
         write!(out, "refusal {number}, group {first}, code {second}");
     }

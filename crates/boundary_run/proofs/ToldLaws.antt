@@ -8,9 +8,9 @@ use Rattle.boundary_run.specs.declared.run.Told.{Told}
 use Rattle.boundary_run.specs.Told.{told_of}
 
 module _ (a : McAnswer) where
-  pub told-accepted : (h p : ℕ) → a ≡ Accepted h p → ◌≡◌ {A = Told} (record { number = 0; first = h; second = p }) (told_of a)
-  told-accepted h p q = rw q
+  pub told-accepted : (h p x : ℕ) → a ≡ Accepted h p x → ◌≡◌ {A = Told} (record { number = 0; first = h; second = p; third = x }) (told_of a)
+  told-accepted h p x q = rw q
 
   pub told-refused : (e : McError) (n g k : ℕ) → a ≡ Refused e → n ≡ (refusal_of e).number → g ≡ (refusal_of e).group → k ≡ (refusal_of e).code
-      → ◌≡◌ {A = Told} (record { number = n; first = g; second = k }) (told_of a)
+      → ◌≡◌ {A = Told} (record { number = n; first = g; second = k; third = 0 }) (told_of a)
   told-refused e n g k q en eg ek = rw (q, en, eg, ek)

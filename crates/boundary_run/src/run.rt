@@ -19,6 +19,8 @@ pub struct Told {
     pub first: usize,
     // used payload bits, or the code
     pub second: usize,
+    // group codes with an excess, or 0
+    pub third: u32,
 }
 
 pub fn in_numbers(answer: McAnswer) -> Told
@@ -28,15 +30,18 @@ pub fn in_numbers(answer: McAnswer) -> Told
         McAnswer::Accepted {
             head_bits,
             payload_bits,
+            excess_codes,
         } => Told {
             number: 0,
             first: head_bits,
             second: payload_bits,
+            third: excess_codes,
         },
         McAnswer::Refused(e) => Told {
             number: e.number(),
             first: e.group(),
             second: e.code() as usize,
+            third: 0,
         },
     }
 }

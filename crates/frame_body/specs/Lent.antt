@@ -14,6 +14,7 @@ use Rattle.mc_state.specs.Answer.{lent_of}
 use Rattle.mc_state.specs.Carry.{Carrying, converted_over}
 use Rattle.mc_state.specs.Frame.{Lent, fresh}
 use Rattle.mc_state.specs.declared.McDecodeState.{McDecodeState}
+use Rattle.mc_fields.specs.Lent.{head_of}
 use Rattle.mc_fields.specs.declared.McStatus.{McStatus}
 
 -- ---- the state that follows the opening
@@ -63,3 +64,7 @@ pub record Cut (n : Numbers) (body steps : List ℕ) (values : List Float) : Typ
 unfoldable pub layout_for : Outcome (McHeader × (ℕ × McStatus)) → ℕ → Layout
 layout_for (accepted values used) base_channels = layout_record (config_of values.0 base_channels)
 layout_for (refused r) base_channels = laid []
+
+-- those of a frame
+unfoldable pub layout_in : Numbers → List ℕ → Layout
+layout_in n body = let l = lent_in n body in layout_for (head_of l.reading l.head l.head_bits l.base_channels) l.base_channels

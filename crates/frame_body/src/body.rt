@@ -3,7 +3,7 @@ ghost use Rattle.std.specs.Prelude.{◌≡◌};
 ghost use Rattle.mc_state.specs.Answer.{buffers_from, after_of, carrying_of};
 ghost use Rattle.mc_state.specs.Frame.{frame_of};
 ghost use Rattle.mc_fields.specs.Lent.{head_of};
-ghost use Rattle.frame_body.specs.Lent.{Whole, Cut, lent_from, lent_in, layout_for, first_state, second_state};
+ghost use Rattle.frame_body.specs.Lent.{Whole, Cut, lent_from, lent_in, layout_for, layout_in, first_state, second_state};
 
 use encoding::{u8_at, u32_at};
 use frame_file::{Numbers, fill_steps, fill_values};
@@ -95,7 +95,7 @@ pub fn decode_body(
 }
 
 // The output channels of a head; none of a refused one.
-pub fn layout_of(head: &[u8], bits: usize, reading: u32, base_channels: u8) -> Layout
+fn layout_of(head: &[u8], bits: usize, reading: u32, base_channels: u8) -> Layout
     ensures { result ≡ layout_for (head_of reading head.now bits base_channels) base_channels }
 {
     let found = read_head(head, bits, reading, base_channels);
@@ -110,6 +110,17 @@ pub fn layout_of(head: &[u8], bits: usize, reading: u32, base_channels: u8) -> L
             channels: [0; 5],
         },
     }
+}
+
+// The output channels of a frame.
+pub fn layout_in(n: Numbers, body: &[u8]) -> Layout
+    requires { Whole n body.now }
+    ensures { result ≡ layout_in n body.now }
+{
+    let from = 128 * n.base_channels as usize + 384;
+    let to = from + n.head_bytes as usize;
+    let bits = n.head_bits as usize;
+    layout_of(&body[from..to], bits, n.reading, n.base_channels)
 }
 
 // The state of a file of the first version, converted: it has a count and one tally.

@@ -3,7 +3,7 @@ use Rattle.std.specs.Prelude.{false, ◌&&◌, cond, List, ℕ, ◌+◌, ◌*◌
 use Rattle.std.specs.Float.{fin}
 use Rattle.tables.specs.Scalefactor.{scalefactor_of}
 use Rattle.bitalloc.specs.Classes.{is_class, grouped, bits_per_sample, bits_per_codeword}
-use Rattle.requant.specs.Requant.{raw_of, degrouped, lfe_sample_of, coefficient_of}
+use Rattle.requant.specs.Requant.{raw_of, degrouped, excess_of, lfe_sample_of, coefficient_of}
 
 abbrev pub plus_zero : Float
 plus_zero = fin false 0 (pos 0)
@@ -14,12 +14,12 @@ scalefactor_leaf index = cond (ltb index 63) (scalefactor_of index) plus_zero
 abbrev pub requantize_leaf : ℕ → ℕ → Float
 requantize_leaf steps code = cond (is_class steps && ltb code (2 ^ bits_per_sample steps)) (raw_of steps code) plus_zero
 
--- three digits in one number, eight bits to each, the first lowest
-abbrev pub packed : List ℕ → ℕ
-packed digits = get_or digits 0 0 + 256 * get_or digits 1 0 + 65536 * get_or digits 2 0
+-- three digits below nine in one number, eight, eight and four bits to each, the first lowest; above them the excess
+abbrev pub packed : List ℕ → ℕ → ℕ
+packed digits excess = get_or digits 0 0 + 256 * get_or digits 1 0 + 65536 * get_or digits 2 0 + 1048576 * excess
 
 abbrev pub degroup_leaf : ℕ → ℕ → ℕ
-degroup_leaf steps combined = cond (grouped steps && ltb combined (2 ^ bits_per_codeword steps)) (packed (degrouped steps combined)) 0
+degroup_leaf steps combined = cond (grouped steps && ltb combined (2 ^ bits_per_codeword steps)) (packed (degrouped steps combined) (excess_of steps combined)) 0
 
 abbrev pub lfe_leaf : ℕ → ℕ → ℕ → Float
 lfe_leaf allocation index code =

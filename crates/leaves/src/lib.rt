@@ -3,7 +3,7 @@
 #![tactic(auto)]
 
 ghost use Rattle.std.specs.Prelude.{◌≡◌, ◌<◌, ◌≤◌, ◌^◌, ltb};
-ghost use Rattle.requant.specs.Requant.{degrouped};
+ghost use Rattle.requant.specs.Requant.{degrouped, excess_of};
 ghost use Rattle.leaves.specs.Leaves.{scalefactor_leaf, requantize_leaf, packed, degroup_leaf, lfe_leaf, coefficient_leaf};
 
 use bitalloc::class_or_zero;
@@ -44,13 +44,13 @@ pub extern "C" fn mc_leaf_requantize_code(nb_steps: u32, code: u32) -> f64
     }
 }
 
-// The digits of a grouped code in one number.
+// The digits of a grouped code and its excess in one number.
 fn degroup_packed(nb_steps: u32, combined: u32) -> u32
-    requires { (0 < nb_steps) × (nb_steps ≤ 9) }
-    ensures { result ≡ packed (degrouped nb_steps combined) }
+    requires { (3 ≤ nb_steps) × (nb_steps ≤ 9) × (combined < 65536) }
+    ensures { result ≡ packed (degrouped nb_steps combined) (excess_of nb_steps combined) }
 {
-    let digits = requant::degroup(nb_steps, combined);
-    digits[0] + 256 * digits[1] + 65536 * digits[2]
+    let code = requant::degroup(nb_steps, combined);
+    code.digits[0] + 256 * code.digits[1] + 65536 * code.digits[2] + 1048576 * code.excess
 }
 
 #[unsafe(no_mangle)]

@@ -19,7 +19,7 @@ use Rattle.mc_payload.specs.Payload.{Codes}
 use Rattle.mc_unpack.specs.Settled.{settled_of, Numbered}
 use Rattle.mc_unpack.specs.Writable.{Writable}
 use Rattle.mc_unpack.proofs.SettledLaws.{settled-numbered, settled-writable}
-use Rattle.mc_payload.specs.Record.{raw_of, lfe_of, record_of}
+use Rattle.mc_payload.specs.Record.{raw_of, lfe_of, excesses_of, record_of, excess_codes}
 use Rattle.mc_payload.specs.Unpack.{allocations_fit, payload_of, Loan, settings_of}
 use Rattle.mc_payload.proofs.Demand3.Widths.{codes-fit}
 use Rattle.mc_base.specs.Base.{Base, scaled_base}
@@ -138,10 +138,10 @@ module _ (st : McDecodeState) (desk head_used : ℕ) (base : Base) (w : Buffers)
           let f : follows_by s.reading st.layout_len st.layout (channels s) (layout_for s) ≡ false = rw (← en, ← el, ← eb) (not-true b t) in
           rw (← es, is-accepted s payload bits codes o z, f, eh)
 
-      pub after-accepted : not b ≡ false → (k : ℕ) → k ≡ layout_after s.reading st.layout own → (a : List ℕ) → a ≡ tallied desk st.accepted → (w' : Buffers) → w' ≡ written s (Outcome.codes_of codes) base st.pred_hist
-          → after_of (record { answer = Accepted head_used codes.cursor.at; state = record { pred_hist = h; layout_len = n; layout = k; accepted = a } }) w'
+      pub after-accepted : not b ≡ false → (k : ℕ) → k ≡ layout_after s.reading st.layout own → (a : List ℕ) → a ≡ tallied desk st.accepted → (count : ℕ) → count ≡ excess_codes (excesses_of s (Outcome.codes_of codes)) → (w' : Buffers) → w' ≡ written s (Outcome.codes_of codes) base st.pred_hist
+          → after_of (record { answer = Accepted head_used codes.cursor.at count; state = record { pred_hist = h; layout_len = n; layout = k; accepted = a } }) w'
           ≡ after_unpacked st desk s' head_used payload bits base w
       unfolding after_unpacked verdict_unpacked answer_of buffers_of state_of follows
-      after-accepted t k ek a ea w' ew =
+      after-accepted t k ek a ea count ec w' ew =
           let f : follows_by s.reading st.layout_len st.layout (channels s) (layout_for s) ≡ true = rw (← en, ← el, ← eb) (not-false b t) in
-          rw (← es, is-accepted s payload bits codes o z, f, eh, ek, en, el, ea, ew)
+          rw (← es, is-accepted s payload bits codes o z, f, eh, ek, en, el, ea, ec, ew)

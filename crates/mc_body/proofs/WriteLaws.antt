@@ -11,12 +11,12 @@ use Rattle.mc_places.specs.declared.places.Places.{Places}
 use Rattle.mc_codes.specs.Outcome.{codes_of}
 use Rattle.mc_payload.specs.Payload.{Codes}
 use Rattle.mc_places.specs.PlacesBy.{places_of}
-use Rattle.mc_payload.specs.Record.{Record, raw_of, lfe_of, record_of}
-use Rattle.mc_unpack.proofs.RecordLaws.{raw-record, lfe-record, delays-record, coefs-record}
+use Rattle.mc_payload.specs.Record.{Record, raw_of, lfe_of, excesses_of, record_of, excess_codes}
+use Rattle.mc_unpack.proofs.RecordLaws.{raw-record, lfe-record, excess-record, delays-record, coefs-record}
 use Rattle.mc_unpack.specs.Writable.{Writable}
 use Rattle.mc_unpack.proofs.SettledLaws.{own-table}
 use Rattle.mc_payload.specs.Unpack.{steps_fit}
-use Rattle.mc_values.specs.Values.{SamplesFit, raw_from, lfe_from, delays_in, delays_from, coefs_from}
+use Rattle.mc_values.specs.Values.{SamplesFit, raw_from, lfe_from, excesses_from, delays_in, delays_from, coefs_from}
 use Rattle.mc_payload.proofs.Demand3.Widths.{predictor_width, Fitting}
 use Rattle.mc_base.specs.Base.{Base}
 use Rattle.mc_scale.specs.Scale.{scaled_at}
@@ -37,6 +37,9 @@ module _ (s : McSettings) (p : McPayload) (e : p.places ≡ places_of s) where
 
   pub lfe-written : (x : List Float) → x ≡ lfe_from s.lfe_allocation p.codes.lf_scalefactor p.codes.granules → x ≡ lfe_of s.lfe_allocation (codes_of p.codes)
   lfe-written x h = h ∙ lfe-record s.lfe_allocation (codes_of p.codes)
+
+  pub excesses-counted : (n : ℕ) → n ≡ excess_codes (excesses_from p.places.own p.codes.granules) → n ≡ excess_codes (excesses_of s (codes_of p.codes))
+  excesses-counted n h = h ∙ rw (own-table s p.places e) (ap excess_codes (excess-record s (codes_of p.codes)))
 
   -- ---- work
 
@@ -60,7 +63,7 @@ module _ (s : McSettings) (p : McPayload) (e : p.places ≡ places_of s) where
         small = λ g px hg hp. rw (ed, get_or-tab {A = List ℕ} [] _ 8 g hg, get_or-tab {A = ℕ} 0 _ 6 px hp) (z.small (6 * g + px) (omega arith));
       }
 
--- the LFE samples take no part in work
+-- the LFE samples and the excesses take no part in work
 work-without : (s : McSettings) (r : Record) (base : Base) (history : List Float)
     → work_of s (record_from r.raw r.scalefactor r.delay r.coef) base history ≡ work_of s r base history
 unfolding work_of work_at scaled_at sum_of with_term

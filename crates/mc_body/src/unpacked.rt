@@ -99,7 +99,7 @@ pub fn unpacked_frame<'a>(
             },
         };
     }
-    write_samples(s, p, raw, lfe);
+    let excess_codes = write_samples(s, p, raw, lfe);
     finish_payload(
         s,
         p,
@@ -116,6 +116,7 @@ pub fn unpacked_frame<'a>(
         answer: McAnswer::Accepted {
             head_bits,
             payload_bits: p.codes.cursor.at,
+            excess_codes,
         },
         state: McDecodeState {
             pred_hist: next,

@@ -2,7 +2,7 @@
 ghost use Rattle.std.specs.Prelude.{◌≡◌, ◌≤◌, ◌<◌, length};
 ghost use Rattle.mc_codes.specs.Outcome.{codes_of};
 ghost use Rattle.mc_places.specs.PlacesBy.{places_of};
-ghost use Rattle.mc_payload.specs.Record.{raw_of, lfe_of, record_of};
+ghost use Rattle.mc_payload.specs.Record.{raw_of, lfe_of, excesses_of, record_of, excess_codes};
 ghost use Rattle.mc_unpack.specs.Writable.{Writable};
 ghost use Rattle.mc_base.specs.Base.{base_from};
 ghost use Rattle.mc_finish.specs.Finish.{BaseFits};
@@ -15,18 +15,19 @@ use mc_samples::{write_lfe, write_raw};
 use mc_unpack::McPayload;
 use mc_values::{coefs, delays};
 
-// Raw and LFE values.
-pub fn write_samples(s: McSettings, p: McPayload, raw: &mut [f64], lfe: &mut [f64])
+// Raw and LFE values. Answers how many group codes have an excess.
+pub fn write_samples(s: McSettings, p: McPayload, raw: &mut [f64], lfe: &mut [f64]) -> u32
     requires { (length raw.old ≡ 3456) × (length lfe.old ≡ 12) × (p.places ≡ places_of s) × (s.lfe_allocation ≤ 15) × Writable s (codes_of p.codes) }
-    ensures { (raw.new ≡ raw_of s (codes_of p.codes)) × (lfe.new ≡ lfe_of s.lfe_allocation (codes_of p.codes)) }
+    ensures { (raw.new ≡ raw_of s (codes_of p.codes)) × (lfe.new ≡ lfe_of s.lfe_allocation (codes_of p.codes)) × (result ≡ excess_codes (excesses_of s (codes_of p.codes))) }
 {
-    write_raw(&p.places.own, &p.codes.granules, raw);
+    let excess_codes = write_raw(&p.places.own, &p.codes.granules, raw);
     write_lfe(
         s.lfe_allocation,
         p.codes.lf_scalefactor,
         &p.codes.granules,
         lfe,
     );
+    excess_codes
 }
 
 // Work and output, from the raw values.

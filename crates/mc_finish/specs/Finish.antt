@@ -5,9 +5,9 @@ use Rattle.mc_payload.specs.Places.{steps_of, sources_of, bases_of}
 use Rattle.mc_payload.specs.Record.{Record}
 use Rattle.mc_base.specs.Base.{Base}
 
--- the record, but for the LFE samples, which take no part
+-- the record, but for the LFE samples and the excesses, which take no part
 abbrev pub record_from : List Float → List ℕ → List (List ℕ) → List (List (List Float)) → Record
-record_from raw scalefactor delay coef = record { raw = raw; scalefactor = scalefactor; delay = delay; coef = coef; lfe = [] }
+record_from raw scalefactor delay coef = record { raw = raw; scalefactor = scalefactor; delay = delay; coef = coef; lfe = []; excess = [] }
 
 -- the tables are those of the settings
 pub record Tables (s : McSettings) (steps source base : List ℕ) : Type 0 where

@@ -9,7 +9,7 @@ use mc_pack::{carried, converted, packed_frame, renewed};
 use mc_state::McDecodeState;
 
 #[unsafe(no_mangle)]
-pub extern "C" fn mc_decode_frame_desks<'s, 'h, 'p, 'a, 'b, 'n, 'r, 'w, 'o, 'l>(
+pub extern "C" fn mc_decode_frame_excess<'s, 'h, 'p, 'a, 'b, 'n, 'r, 'w, 'o, 'l>(
     state: &'s mut McDecodeState,
     head: &'h [u8],
     head_bits: usize,

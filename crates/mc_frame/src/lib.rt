@@ -4,5 +4,5 @@
 mod export;
 
 pub use export::{
-    mc_carry_state_desks, mc_convert_state, mc_decode_frame_desks, mc_fresh_state_desks,
+    mc_carry_state_desks, mc_convert_state, mc_decode_frame_excess, mc_fresh_state_desks,
 };

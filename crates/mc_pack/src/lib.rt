@@ -3,29 +3,12 @@
 
 ghost use Rattle.std.specs.Prelude.{◌≡◌};
 ghost use Rattle.mc_base.specs.Base.{base_from};
-ghost use Rattle.mc_state.specs.Answer.{lent_of, buffers_from, outcome_of, packed, packed_by, packed_of, carry_number, carrying_by};
+ghost use Rattle.mc_state.specs.Answer.{lent_of, buffers_from, packed_by, packed_of, carry_number, carrying_by};
 ghost use Rattle.mc_state.specs.Carry.{carried_over, converted_over};
 ghost use Rattle.mc_state.specs.Frame.{fresh, frame_of};
 
 use mc_decode::frame_by_value;
-use mc_state::{CarryAnswer, McAnswer, McDecodeState};
-
-// The answer as one number.
-fn pack(answer: McAnswer) -> u64
-    ensures { result ≡ packed (outcome_of answer) }
-{
-    match answer {
-        McAnswer::Accepted {
-            head_bits,
-            payload_bits,
-        } => {
-            (head_bits % 16777216) as u64 * 256 + (payload_bits % 4294967296) as u64 * 4294967296
-        }
-        McAnswer::Refused(e) => {
-            e.number() as u64 + (e.group() % 16777216) as u64 * 256 + e.code() as u64 * 4294967296
-        }
-    }
-}
+use mc_state::{CarryAnswer, McDecodeState, pack};
 
 #[derive(Clone, Copy)]
 pub struct PackedFrame {

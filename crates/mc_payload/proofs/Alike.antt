@@ -6,7 +6,7 @@ use Rattle.mc_config.specs.Config.{layout_of}
 use Rattle.mc_payload.specs.declared.McSettings.{McSettings}
 use Rattle.mc_payload.specs.Places.{config, pair, carried, source_at, transmitted, base_at, steps_at, own_at, place, steps_of, own_of}
 use Rattle.mc_payload.specs.Payload.{Codes}
-use Rattle.mc_payload.specs.Record.{raw_at, raw_of, record_of}
+use Rattle.mc_payload.specs.Record.{raw_at, raw_of, excess_at, excesses_of, record_of}
 use Rattle.mc_payload.specs.Unpack.{allocation_fits, allocations_fit, payload_of}
 
 pub record Alike (s t : McSettings) : Type 0 where
@@ -73,7 +73,11 @@ module _ (s t : McSettings) (e : Alike s t) where
   unfolding raw_of raw_at
   raw-alike c = tab-same 3456 (λ k h. rw (own-alike (k / 1152) (k % 32)))
 
+  pub excesses-alike : (c : Codes) → excesses_of s c ≡ excesses_of t c
+  unfolding excesses_of excess_at
+  excesses-alike c = tab-same 1152 (λ k h. rw (own-alike (k / 12 % 3) (k / 36)))
+
   -- and of the same codes the same record
   pub record-alike : (c : Codes) → record_of s c ≡ record_of t c
   unfolding record_of
-  record-alike c = rw (raw-alike c, e.statuses, e.allocations)
+  record-alike c = rw (raw-alike c, excesses-alike c, e.statuses, e.allocations)

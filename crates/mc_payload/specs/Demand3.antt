@@ -9,10 +9,10 @@ use Rattle.mc_fields.specs.Head.{count_at}
 use Rattle.mc_payload.specs.declared.McSettings.{McSettings}
 use Rattle.mc_payload.specs.Places.{steps_at, own_at}
 use Rattle.mc_payload.specs.Payload.{Codes}
-use Rattle.mc_payload.specs.Record.{scfsi_of, delay_of, coef_of, lf_scalefactor_of, scalefactor_at, code_of, raw_at, lfe_at}
+use Rattle.mc_payload.specs.Record.{scfsi_of, delay_of, coef_of, lf_scalefactor_of, scalefactor_at, code_of, excess_at, raw_at, lfe_at}
 use Rattle.mc_payload.specs.Unpack.{Loan, settings_of, unpack_of}
 
--- each group code is below the cube of its step count
+-- each group code is below the cube of its step count: none has an excess
 abbrev pub GroupsBelow : McSettings → Codes → Type 0
 GroupsBelow s c = (gr m sb : ℕ) → gr < 12 → m < 3 → sb < 32 → grouped (own_at s m sb) ≡ true → code_of c gr m sb 0 < own_at s m sb ^ 3
 
@@ -31,11 +31,23 @@ pub record SameRecord (s : McSettings) (c c' : Codes) : Type 0 where
   pub raw : (m slot sb : ℕ) → m < 3 → slot < 36 → sb < 32 → (own_at s m sb ≡ 0 → ⊥) → SameFloat (raw_at s c m slot sb) (raw_at s c' m slot sb)
   pub lfe : (gr : ℕ) → gr < 12 → (s.lfe_allocation ≡ 0 → ⊥) → SameFloat (lfe_at s.lfe_allocation c gr) (lfe_at s.lfe_allocation c' gr)
 
+-- and so are the excesses of their group codes (document 02, L2)
+pub record SameWhole (s : McSettings) (c c' : Codes) : Type 0 where
+  pub entries : SameRecord s c c'
+  pub excess : (gr m sb : ℕ) → gr < 12 → m < 3 → sb < 32 → grouped (own_at s m sb) ≡ true → excess_at s c gr m sb ≡ excess_at s c' gr m sb
+
 -- the same used bits, in number and one by one
 abbrev pub SameUsed : List ℕ → ℕ → List ℕ → ℕ → Type 0
 SameUsed b u b' u' = (u ≡ u') × ((i : ℕ) → i < u → bit_at b i ≡ bit_at b' i)
 
--- records are equal exactly when used payload bits are
+-- records with their excesses are equal exactly when used payload bits are
+abbrev pub UniqueWhole : Type 0
+UniqueWhole =
+    (l : Loan) (b b' : List ℕ) (n n' : ℕ) (c c' : Codes) (u u' : ℕ)
+    → unpack_of l b n ≡ accepted c u → unpack_of l b' n' ≡ accepted c' u'
+    → SameWhole (settings_of l) c c' ↔ SameUsed b u b' u'
+
+-- and without them, where no group code has one
 abbrev pub UniqueReading : Type 0
 UniqueReading =
     (l : Loan) (b b' : List ℕ) (n n' : ℕ) (c c' : Codes) (u u' : ℕ)

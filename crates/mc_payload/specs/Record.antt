@@ -2,9 +2,10 @@
 use Rattle.std.specs.Prelude.{cond, List, ℕ, ◌+◌, ◌*◌, ◌/◌, ◌%◌, eqb, ltb, Float, get_or}
 use Rattle.fill.specs.Tab.{tab}
 use Rattle.floats.specs.Binary64.{zero64}
+use Rattle.bits.specs.Total.{total}
 use Rattle.bitalloc.specs.Classes.{grouped}
 use Rattle.requant.specs.Requant
-use Rattle.requant.specs.Requant.{degrouped, lfe_sample_of, coefficient_of}
+use Rattle.requant.specs.Requant.{degrouped, excess_of, lfe_sample_of, coefficient_of}
 use Rattle.mc_fields.specs.Head.{count_at}
 use Rattle.mc_payload.specs.declared.McSettings.{McSettings}
 use Rattle.mc_payload.specs.Places.{own_at}
@@ -38,6 +39,12 @@ code_of c gr m sb k = get_or c.1.1.1.1 (289 * gr + 1 + 3 * (3 * sb + m) + k) 0
 abbrev pub sample_code_of : ℕ → Codes → ℕ → ℕ → ℕ → ℕ
 sample_code_of n c m slot sb = cond (grouped n) (get_or (degrouped n (code_of c (slot / 3) m sb 0)) (slot % 3) 0) (code_of c (slot / 3) m sb (slot % 3))
 
+-- what the group code of channel m in subband sb of granule gr holds beyond its digits; 0 where there is none (document 02, L2)
+unfoldable pub excess_at : McSettings → Codes → ℕ → ℕ → ℕ → ℕ
+excess_at s c gr m sb =
+    let n = own_at s m sb in
+    cond (grouped n) (excess_of n (code_of c gr m sb 0)) 0
+
 -- the raw value of channel m in a slot and subband; +0 where the payload has none
 unfoldable pub raw_at : McSettings → Codes → ℕ → ℕ → ℕ → Float
 raw_at s c m slot sb =
@@ -61,6 +68,8 @@ pub record Record : Type 0 where
   pub coef : List (List (List Float))
   -- by granule
   pub lfe : List Float
+  -- place 3 sb + m and granule at 12 (3 sb + m) + granule
+  pub excess : List ℕ
 
 unfoldable pub raw_of : McSettings → Codes → List Float
 raw_of s c = tab (λ (k : ℕ). raw_at s c (k / 1152) (k / 32 % 36) (k % 32)) 3456
@@ -74,6 +83,9 @@ coefs_of predsi c = tab (λ (g : ℕ). tab (λ (px : ℕ). tab (coef_of predsi c
 unfoldable pub lfe_of : ℕ → Codes → List Float
 lfe_of lfe c = tab (lfe_at lfe c) 12
 
+unfoldable pub excesses_of : McSettings → Codes → List ℕ
+excesses_of s c = tab (λ (k : ℕ). excess_at s c (k % 12) (k / 12 % 3) (k / 36)) 1152
+
 unfoldable pub record_of : McSettings → Codes → Record
 record_of s c =
     record {
@@ -82,4 +94,13 @@ record_of s c =
       delay = delays_of c;
       coef = coefs_of s.status.mc_prediction c;
       lfe = lfe_of s.lfe_allocation c;
+      excess = excesses_of s c;
     }
+
+-- one for a number that is not 0
+abbrev pub one_for : ℕ → ℕ
+one_for n = cond (eqb n 0) 0 1
+
+-- how many group codes hold more than their digits
+unfoldable pub excess_codes : List ℕ → ℕ
+excess_codes excesses = total 1152 0 (λ k. one_for (get_or excesses k 0))

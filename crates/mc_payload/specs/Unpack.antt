@@ -1,5 +1,5 @@
 -- Unpacking a payload string: what is lent is checked (refusal 6), then the allocations (8), then the payload is read (1, 3, 4).
-use Rattle.std.specs.Prelude.{Bool, ◌&&◌, ◌||◌, cond, List, ℕ, ◌+◌, ◌*◌, ◌/◌, ◌%◌, eqb, leb, length, get_or}
+use Rattle.std.specs.Prelude.{Bool, ◌&&◌, ◌||◌, cond, List, ℕ, ◌*◌, ◌/◌, ◌%◌, eqb, leb, length, get_or}
 use Rattle.bits.specs.Syntax.{Syntax, Outcome, plain, refused, run}
 use Rattle.fill.specs.Each.{each}
 use Rattle.fill.specs.Tab.{tab}

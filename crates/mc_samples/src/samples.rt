@@ -1,65 +1,87 @@
 // Raw and LFE values from their codes (ISO/IEC 11172-3, 2.4.3.3.4; ISO/IEC 13818-3, 2.5.3.2.4).
 ghost use Rattle.std.specs.Prelude.{◌≡◌, true, ℕ, ◌+◌, ◌*◌, ◌/◌, ◌%◌, ◌^◌, ◌≤◌, ◌<◌, length, get_or};
+ghost use Rattle.bits.specs.Total.{total};
 ghost use Rattle.bitalloc.specs.Classes.{is_class};
+ghost use Rattle.mc_payload.specs.Record.{one_for, excess_codes};
 ghost use Rattle.mc_payload.specs.Unpack.{steps_fit};
-ghost use Rattle.mc_values.specs.Values.{three_codes, three_values, raw_by, raw_from, lfe_by, lfe_from, spread, ValuesFit, PlaceFits, SamplesFit, LfeFits};
+ghost use Rattle.mc_values.specs.Values.{three_codes, three_values, code_excess, excess_by, excesses_from, raw_by, raw_from, lfe_by, lfe_from, spread, ValuesFit, PlaceFits, SamplesFit, LfeFits};
 
 use bitalloc::QuantClass;
+use requant::Degrouped;
 
-// The codes of three samples: the digits of the group code x, or x, y and z.
-fn three_codes(class: QuantClass, x: u16, y: u16, z: u16) -> [u32; 3]
+// The codes of three samples: the digits of the group code x and its excess, or x, y and z.
+fn three_codes(class: QuantClass, x: u16, y: u16, z: u16) -> Degrouped
     requires { 0 < class.nb_steps }
-    ensures { result ≡ three_codes class.grouping class.nb_steps x y z }
+    ensures { (result.digits ≡ three_codes class.grouping class.nb_steps x y z) × (result.excess ≡ code_excess class.grouping class.nb_steps x) }
 {
     if class.grouping {
         return requant::degroup(class.nb_steps, x as u32);
     }
-    [x as u32, y as u32, z as u32]
+    Degrouped {
+        digits: [x as u32, y as u32, z as u32],
+        excess: 0,
+    }
 }
 
-// Their values.
-fn three_values(class: QuantClass, x: u16, y: u16, z: u16) -> [f64; 3]
+// Their values, and the excess.
+#[derive(Clone, Copy)]
+struct ThreeValues {
+    values: [f64; 3],
+    excess: u32,
+}
+
+fn three_values(class: QuantClass, x: u16, y: u16, z: u16) -> ThreeValues
     requires { ValuesFit class x y z }
-    ensures { result ≡ three_values class x y z }
+    ensures { (result.values ≡ three_values class x y z) × (result.excess ≡ code_excess class.grouping class.nb_steps x) }
 {
-    let codes = three_codes(class, x, y, z);
-    [
-        requant::requantize_code(class, codes[0]),
-        requant::requantize_code(class, codes[1]),
-        requant::requantize_code(class, codes[2]),
-    ]
+    let three = three_codes(class, x, y, z);
+    ThreeValues {
+        values: [
+            requant::requantize_code(class, three.digits[0]),
+            requant::requantize_code(class, three.digits[1]),
+            requant::requantize_code(class, three.digits[2]),
+        ],
+        excess: three.excess,
+    }
 }
 
-// The 36 raw values of place i, of n steps.
-fn write_place(n: u32, i: usize, granules: &[u16; 3468], raw: &mut [f64])
+// The 36 raw values of place i, of n steps. Answers how many of its group codes have an excess.
+fn write_place(n: u32, i: usize, granules: &[u16; 3468], raw: &mut [f64]) -> u32
     requires place { (is_class n ≡ true) × (i < 96) × (length raw.old ≡ 3456) }
     requires place_fits { PlaceFits n granules.now i }
-    ensures { raw.new ≡ spread (raw_by n granules.now i) (1152 * (i % 3) + i / 3) 36 raw.old }
+    ensures { (raw.new ≡ spread (raw_by n granules.now i) (1152 * (i % 3) + i / 3) 36 raw.old) × (result ≡ total 12 0 (λ gr. one_for (excess_by n granules.now i gr))) }
 {
     let class = bitalloc::class_at(bitalloc::class_index(n));
     let first = 1152 * (i % 3) + i / 3;
+    let mut excess_codes: u32 = 0;
     for gr in 0usize..12 {
         let j = 289 * gr + 1 + 3 * i;
-        let values = three_values(class, granules[j], granules[j + 1], granules[j + 2]);
+        let three = three_values(class, granules[j], granules[j + 1], granules[j + 2]);
         let k = first + 96 * gr;
-        raw[k] = values[0];
-        raw[k + 32] = values[1];
-        raw[k + 64] = values[2];
+        raw[k] = three.values[0];
+        raw[k + 32] = three.values[1];
+        raw[k + 64] = three.values[2];
+        if three.excess != 0 {
+            excess_codes += 1;
+        }
     }
+    excess_codes
 }
 
-// All raw values, +0 where the payload has none.
-pub fn write_raw<'a>(own: &'a [u32; 96], granules: &'a [u16; 3468], raw: &mut [f64])
+// All raw values, +0 where the payload has none. Answers how many group codes have an excess.
+pub fn write_raw<'a>(own: &'a [u32; 96], granules: &'a [u16; 3468], raw: &mut [f64]) -> u32
     requires { (length raw.old ≡ 3456) × ((i : ℕ) → i < 96 → steps_fit (get_or own.now i 0) ≡ true) × SamplesFit own.now granules.now }
-    ensures { raw.new ≡ raw_from own.now granules.now }
+    ensures { (raw.new ≡ raw_from own.now granules.now) × (result ≡ excess_codes (excesses_from own.now granules.now)) }
 {
     fill::clear(raw);
+    let mut excess_codes: u32 = 0;
     for i in 0usize..96 {
         let n = own[i];
         if n != 0 {
-            write_place(n, i, granules, raw);
+            excess_codes += write_place(n, i, granules, raw);
         }
     }
+    excess_codes
 }
 
 fn lfe_value(lfe: u8, lf_scalefactor: u8, code: u16) -> f64

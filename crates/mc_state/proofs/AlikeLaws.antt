@@ -10,7 +10,7 @@ use Rattle.bits.specs.Syntax.{plain, Outcome, accepted, refused}
 use Rattle.mc_payload.specs.declared.McSettings.{McSettings}
 use Rattle.mc_payload.specs.Payload.{Codes}
 use Rattle.mc_payload.specs.Record.{Record, record_of}
-use Rattle.mc_payload.proofs.Alike.{Alike, source-alike, base-alike, steps_alike, allocations-alike, payload-alike, record-alike}
+use Rattle.mc_payload.proofs.Alike.{Alike, source-alike, base-alike, steps_alike, allocations-alike, payload-alike, excesses-alike, record-alike}
 use Rattle.mc_unpack.specs.Settled.{settled_of}
 use Rattle.mc_base.specs.Base.{Base}
 use Rattle.mc_scale.specs.Scale.{scaled_at}
@@ -109,7 +109,7 @@ module _ (s t : McSettings) (e : Alike s t) where
       verdict-alike : (c : Codes) (used : ℕ) (b : Bool)
           → SameBut (after_verdict (cond b (frame s c head_used used) (changed s)) desk base w st) (after_verdict (cond b (frame t c head_used used) (changed t)) desk base w st)
       unfolding answer_of buffers_of state_of
-      verdict-alike c used true = record { answer = refl; buffers = written-alike c st.pred_hist; history = history-alike; count = channels-alike; tallies = refl }
+      verdict-alike c used true = record { answer = rw (excesses-alike s t e c); buffers = written-alike c st.pred_hist; history = history-alike; count = channels-alike; tallies = refl }
       verdict-alike c used false = record { answer = refl; buffers = refl; history = history-alike; count = refl; tallies = refl }
 
       -- if t is under reading 1, s gives the same frame, or its layout is another than the one that is held

@@ -7,7 +7,7 @@ use Rattle.std.specs.Float.Ieee.{of_bits, round, add, sub, mul, div, of_int, neg
 use Rattle.std.specs.Float.Ieee.Fits.{and_l, and_r}
 use Rattle.floats.proofs.Same.{same, same→, same_bool}
 use Rattle.bitalloc.specs.Classes.{classes, class_at, class_index}
-use Rattle.requant.specs.Requant.{fraction, requantized, raw_of, degrouped, lfe_c, lfe_d, lfe_of, coefficient_of}
+use Rattle.requant.specs.Requant.{fraction, requantized, raw_of, degrouped, excess_of, lfe_c, lfe_d, lfe_of, coefficient_of}
 use Rattle.mc_config.specs.Groups.{sbgr_of}
 use Rattle.mc_crosstalk.specs.Crosstalk.{listed, sources3, sources2}
 use Rattle.mc_payload.specs.declared.McSettings.{McSettings}
@@ -23,7 +23,7 @@ same_digits (x ∷ xs) (y ∷ ys) = eqb x y && same_digits xs ys
 
 test : Row → Bool
 test (sample steps code x) = same (raw_of steps code) x
-test (group steps code digits) = same_digits (degrouped steps code) digits
+test (group steps code digits excess) = same_digits (degrouped steps code) digits && eqb (excess_of steps code) excess
 test (coefficient byte x) = same (coefficient_of byte) x
 test (lfe bits code x) = same (lfe_of bits code) x
 test (crosstalk pair code passes) = beq (listed pair code) passes
@@ -55,7 +55,8 @@ reaches t place w s base h ch sb =
 holds : (row : Row) → T (test row) → Holds row
 unfolding Holds test
 holds (sample steps code x) t = same→ (raw_of steps code) x t
-holds (group steps code digits) t = digits-equal (degrouped steps code) digits t
+holds (group steps code digits excess) t =
+    (digits-equal (degrouped steps code) digits (and_l (same_digits (degrouped steps code) digits) _ t), eqb→eq (excess_of steps code) excess (and_r (same_digits (degrouped steps code) digits) _ t))
 holds (coefficient byte x) t = same→ (coefficient_of byte) x t
 holds (lfe bits code x) t = same→ (lfe_of bits code) x t
 holds (crosstalk pair code passes) t = same_bool (listed pair code) passes t
@@ -68,7 +69,7 @@ each [] t = tt
 each (row ∷ more) t = (holds row (and_l (test row) _ t), each more (and_r (test row) _ t))
 
 rows_pass : T (tests rows)
-unfolding tests test same_digits rows of_bits round add sub mul div of_int neg classes class_at class_index fraction requantized degrouped lfe_c lfe_d lfe_of coefficient_of sbgr_of listed sources3 sources2
+unfolding tests test same_digits rows of_bits round add sub mul div of_int neg classes class_at class_index fraction requantized degrouped excess_of lfe_c lfe_d lfe_of coefficient_of sbgr_of listed sources3 sources2
 rows_pass = tt
 
 pub boundary-frames : Each rows

@@ -4,6 +4,7 @@ pub mod CarryLaws
 pub mod DeskLaws
 pub mod HeldLaws
 pub mod PackLaws
+pub mod PackedOnce
 pub mod ReadingLaws
 pub mod Demand1
 pub mod Reel

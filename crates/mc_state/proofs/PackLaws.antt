@@ -8,8 +8,9 @@ use Rattle.mc_state.specs.declared.Framed.{Framed}
 use Rattle.mc_state.specs.Frame.{Buffers, After}
 use Rattle.mc_state.specs.Answer.{outcome_of, after_of, packed, packed_by, packed_of}
 
-pub packs-accepted : (a : McAnswer) (h p : ℕ) → a ≡ Accepted h p → h % 16777216 * 256 + p % 4294967296 * 4294967296 ≡ packed (outcome_of a)
-packs-accepted a h p q = rw q
+pub packs-accepted : (a : McAnswer) (h p n : ℕ) → a ≡ Accepted h p n
+    → h % 16777216 * 256 + p % 1048576 * 4294967296 + n % 4096 * 4503599627370496 ≡ packed (outcome_of a)
+packs-accepted a h p n q = rw q
 
 pub packs-refused : (a : McAnswer) (e : McError) (n g k : ℕ) → a ≡ Refused e → n ≡ (refusal_of e).number → g ≡ (refusal_of e).group → k ≡ (refusal_of e).code
     → n + g % 16777216 * 256 + k * 4294967296 ≡ packed (outcome_of a)

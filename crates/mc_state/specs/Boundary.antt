@@ -5,7 +5,7 @@ use Rattle.std.specs.Float.Ieee.{neg}
 use Rattle.floats.specs.Binary64.{zero64}
 use Rattle.floats.specs.Decimal.{decimal}
 use Rattle.bitalloc.specs.Classes.{c_of}
-use Rattle.requant.specs.Requant.{raw_of, degrouped, lfe_of, coefficient_of}
+use Rattle.requant.specs.Requant.{raw_of, degrouped, excess_of, lfe_of, coefficient_of}
 use Rattle.mc_config.specs.Groups.{sbgr_of}
 use Rattle.mc_crosstalk.specs.Crosstalk.{listed}
 use Rattle.mc_payload.specs.declared.McSettings.{McSettings}
@@ -15,8 +15,8 @@ use Rattle.mc_predict.specs.Predict.{earlier}
 pub data Row : Type 0 where
   -- a step count, a code, and its raw value
   sample : ℕ → ℕ → Float → Row
-  -- a step count, a group code, and its digits
-  group : ℕ → ℕ → List ℕ → Row
+  -- a step count, a group code, its digits and its excess
+  group : ℕ → ℕ → List ℕ → ℕ → Row
   -- a byte, and its coefficient
   coefficient : ℕ → Float → Row
   -- bits of an LFE code, the code, and its value before scaling
@@ -31,7 +31,7 @@ pub data Row : Type 0 where
 -- what a row says
 unfoldable pub Holds : Row → Type 0
 Holds (sample steps code x) = raw_of steps code ≡ x
-Holds (group steps code digits) = degrouped steps code ≡ digits
+Holds (group steps code digits excess) = (degrouped steps code ≡ digits) × (excess_of steps code ≡ excess)
 Holds (coefficient byte x) = coefficient_of byte ≡ x
 Holds (lfe bits code x) = lfe_of bits code ≡ x
 Holds (crosstalk pair code passes) = listed pair code ≡ passes
@@ -43,11 +43,11 @@ unfoldable pub rows : List Row
 rows =
     sample 3 1 zero64
     ∷ sample 7 7 (c_of 7)
-    ∷ group 3 26 (2 ∷ 2 ∷ 2 ∷ [])
-    ∷ group 3 27 (0 ∷ 0 ∷ 0 ∷ [])
-    ∷ group 3 31 (1 ∷ 1 ∷ 0 ∷ [])
-    ∷ group 5 127 (2 ∷ 0 ∷ 0 ∷ [])
-    ∷ group 9 1023 (6 ∷ 5 ∷ 3 ∷ [])
+    ∷ group 3 26 (2 ∷ 2 ∷ 2 ∷ []) 0
+    ∷ group 3 27 (0 ∷ 0 ∷ 0 ∷ []) 1
+    ∷ group 3 31 (1 ∷ 1 ∷ 0 ∷ []) 1
+    ∷ group 5 127 (2 ∷ 0 ∷ 0 ∷ []) 1
+    ∷ group 9 1023 (6 ∷ 5 ∷ 3 ∷ []) 1
     ∷ coefficient 0 (neg (decimal 5 396875))
     ∷ coefficient 127 zero64
     ∷ coefficient 255 (decimal 0 4)

@@ -1,11 +1,12 @@
 -- Demand 1: what it says of a frame call that is refused, and of one that is accepted.
-use Rattle.std.specs.Prelude.{◌≡◌, Bool, true, false, ◌||◌, List, [], ◌∷◌, ◌⊎◌, ℕ, eqb}
+use Rattle.std.specs.Prelude.{◌≡◌, Bool, true, false, ◌||◌, List, [], ◌∷◌, ◌⊎◌, ℕ, ◌<◌, eqb}
 use Rattle.bits.specs.Syntax.{Refusal, plain, accepted, refused}
 use Rattle.mc_config.specs.declared.McHeader.{McHeader}
 use Rattle.mc_fields.specs.declared.McStatus.{McStatus}
 use Rattle.mc_fields.specs.Lent.{head_of}
 use Rattle.mc_payload.specs.declared.McSettings.{McSettings}
 use Rattle.mc_payload.specs.Payload.{Codes}
+use Rattle.mc_payload.specs.Record.{excesses_of, excess_codes}
 use Rattle.mc_unpack.specs.Settled.{settled_of}
 use Rattle.mc_output.specs.Output.{channels}
 use Rattle.mc_history.specs.History.{history_of}
@@ -32,9 +33,10 @@ among (m ∷ more) n = eqb n m || among more n
 abbrev pub frame_numbers : List ℕ
 frame_numbers = 1 ∷ 2 ∷ 3 ∷ 4 ∷ 5 ∷ 6 ∷ 7 ∷ 8 ∷ 13 ∷ 14 ∷ []
 
--- one of an entry's numbers; a group and a code under 2 alone
+-- one of an entry's numbers; a group, which is one of twelve, and a code under 2 alone
 pub record Numbered (numbers : List ℕ) (x : Refusal) : Type 0 where
   pub number : among numbers x.number ≡ true
+  pub group : x.group < 12
   pub bare : (x.number ≡ 2) ⊎ (x ≡ plain x.number)
 
 -- the base's last nine slots are in the history, and nothing else has changed
@@ -56,11 +58,12 @@ pub record Left (x : Refusal) (l : Lent) (w : Buffers) (st : McDecodeState) (a :
   pub state : (x ≡ plain 5 → ⊥) → a.state ≡ st
   pub stored : x ≡ plain 5 → Stored l st a.state
 
--- the buffers and the state hold what head and payload say
-pub record Written (l : Lent) (st : McDecodeState) (head_used used : ℕ) (a : After) : Type 0 where
+-- the answer, the buffers and the state hold what head and payload say
+pub record Written (l : Lent) (st : McDecodeState) (head_used excess used : ℕ) (a : After) : Type 0 where
   pub settings : McSettings
   pub codes : Codes
   pub found : Found l settings codes head_used used
+  pub excesses : excess ≡ excess_codes (excesses_of settings codes)
   pub allowed : follows st.layout_len st.layout settings ≡ true
   pub desk : desk_fits l.desk ≡ true
   pub buffers : a.buffers ≡ written settings codes l.base st.pred_hist
@@ -74,6 +77,6 @@ RefusedLeaves = (l : Lent) (w : Buffers) (st : McDecodeState) (x : Refusal) → 
 
 abbrev pub AcceptedWrites : Type 0
 AcceptedWrites =
-    (l : Lent) (w : Buffers) (st : McDecodeState) (head_used used : ℕ)
-    → (frame_of l w st).answer ≡ accepted head_used used
-    → Written l st head_used used (frame_of l w st)
+    (l : Lent) (w : Buffers) (st : McDecodeState) (head_used excess used : ℕ)
+    → (frame_of l w st).answer ≡ accepted (head_used, excess) used
+    → Written l st head_used excess used (frame_of l w st)

@@ -9,7 +9,7 @@ use Rattle.mc_fields.specs.declared.McStatus.{McStatus}
 use Rattle.mc_fields.specs.Lent.{string_fits, head_of}
 use Rattle.mc_payload.specs.declared.McSettings.{McSettings}
 use Rattle.mc_payload.specs.Payload.{Codes}
-use Rattle.mc_payload.specs.Record.{record_of}
+use Rattle.mc_payload.specs.Record.{excesses_of, record_of, excess_codes}
 use Rattle.fill.specs.Each.{each}
 use Rattle.mc_payload.specs.Unpack.{settings_of, loan_fits, loan_by}
 use Rattle.mc_unpack.specs.Settled.{settled_of}
@@ -120,11 +120,14 @@ verdict_of l w st =
 
 -- ---- what it leaves
 
--- the used bits of head and payload, or the refusal
-unfoldable pub answer_of : Verdict → Outcome ℕ
+-- the used bits of the head, how many group codes have an excess, and the used bits of the payload; or the refusal
+abbrev pub Answer : Type 0
+Answer = Outcome (ℕ × ℕ)
+
+unfoldable pub answer_of : Verdict → Answer
 answer_of (refusal r) = refused r
 answer_of (changed s) = refused (plain 5)
-answer_of (frame s c head_used used) = accepted head_used used
+answer_of (frame s c head_used used) = accepted (head_used, excess_codes (excesses_of s c)) used
 
 -- what an accepted frame writes
 unfoldable pub written : McSettings → Codes → Base → List Float → Buffers
@@ -153,7 +156,7 @@ state_of (frame s c head_used used) desk base st =
 
 -- the whole call
 pub record After : Type 0 where
-  pub answer : Outcome ℕ
+  pub answer : Answer
   pub buffers : Buffers
   pub state : McDecodeState
 

@@ -4,6 +4,7 @@ pub mod Frame
 pub mod Carry
 pub mod Answer
 pub mod Demand1
+pub mod Packing
 pub mod Reel
 pub mod Long
 pub mod Boundary

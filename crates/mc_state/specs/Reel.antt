@@ -1,12 +1,12 @@
 -- Sequences of frame calls on one state, accepted and refused, from any desks, and a change of readings among them (document 02, L7 and L8). The calls name
 -- their own readings: those before the change may be under reading 1 and those after it under reading 2.
 use Rattle.std.specs.Prelude.{◌≡◌, true, cond, List, [], ◌∷◌, ◌++◌, map, ℕ, ◌+◌, ◌≤◌, eqb, ltb, Float, length}
-use Rattle.bits.specs.Syntax.{Outcome, accepted, refused}
+use Rattle.bits.specs.Syntax.{accepted, refused}
 use Rattle.mc_state.specs.declared.McDecodeState.{McDecodeState}
 use Rattle.mc_state.specs.Held.{held_fits}
 use Rattle.mc_state.specs.Desk.{desk_fits, top, tally_at}
 use Rattle.mc_state.specs.Carry.{carried_over, converted_over}
-use Rattle.mc_state.specs.Frame.{Lent, Buffers, After, frame_of, fresh}
+use Rattle.mc_state.specs.Frame.{Lent, Buffers, Answer, After, frame_of, fresh}
 
 -- a frame call, beside the state
 pub record Call : Type 0 where
@@ -15,7 +15,7 @@ pub record Call : Type 0 where
 
 -- what it answers, and what the buffers hold after it
 pub record Result : Type 0 where
-  pub answer : Outcome ℕ
+  pub answer : Answer
   pub buffers : Buffers
 
 abbrev pub calling : Call → McDecodeState → After
@@ -105,8 +105,8 @@ abbrev pub capped : ℕ → ℕ
 capped n = cond (ltb n top) n top
 
 -- an accepted frame is one
-abbrev pub one : Outcome ℕ → ℕ
-one (accepted head_used used) = 1
+abbrev pub one : Answer → ℕ
+one (accepted (head_used, excess) used) = 1
 one (refused x) = 0
 
 -- how many of the calls are accepted and name the desk

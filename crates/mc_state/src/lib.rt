@@ -1,5 +1,5 @@
 // What a frame call keeps and answers. The definition of the call stands in specs/Frame.antt, demand 1 in specs/Demand1.antt, sequences of calls in
-// specs/Reel.antt.
+// specs/Reel.antt, and what the packed answer loses, which is nothing, in specs/Packing.antt.
 #![tactic(auto)]
 
 use mc_error::McError;
@@ -8,10 +8,12 @@ mod carry;
 mod convert;
 mod desk;
 mod held;
+mod packing;
 mod state;
 
 pub use desk::tallied;
 pub use held::{channel_count, held_fits, layout_after, layout_follows};
+pub use packing::pack;
 
 // What a decoder keeps from frame to frame.
 #[repr(C)]
@@ -27,12 +29,13 @@ pub struct McDecodeState {
     pub accepted: [u32; 8],
 }
 
-// The bits that head and payload use, or why the frame is refused.
+// The bits that head and payload use and how many group codes have an excess, or why the frame is refused.
 #[derive(Clone, Copy)]
 pub enum McAnswer {
     Accepted {
         head_bits: usize,
         payload_bits: usize,
+        excess_codes: u32,
     },
     Refused(McError),
 }

@@ -2,7 +2,7 @@
 use mathlib.Core.Path.{◌≡◌, refl, sym, ap, ◌∙◌}
 use mathlib.Core.Bool.{Bool, true, false, ◌&&◌, cond}
 use mathlib.Core.List.{List}
-use mathlib.Core.Logic.{◌⊎◌, inl, inr, ⊎_elim}
+use mathlib.Core.Logic.{inl, inr, ⊎_elim}
 use Prim.Native.Nat.{ℕ, ◌≤◌, ◌<◌}
 use native.Mathlib.Omega.{arith}
 use lib.Dec.{eqb}
@@ -18,12 +18,13 @@ use Rattle.mc_unpack.specs.declared.entry.UnpackAnswer.TheVariants.{Accepted, Re
 use Rattle.mc_payload.specs.Places.{own_of}
 use Rattle.mc_payload.specs.Payload.{Codes}
 use Rattle.mc_codes.specs.Outcome.{codes_of, outcome_of}
-use Rattle.mc_unpack.proofs.RecordLaws.{raw-record, lfe-record}
+use Rattle.mc_unpack.proofs.RecordLaws.{raw-record, lfe-record, excess-record}
+use Rattle.mc_payload.specs.Record.{excess_codes}
 use Rattle.mc_payload.specs.Unpack.{steps_fit, Loan, settings_of, unpack_of}
-use Rattle.mc_unpack.specs.Answer.{tables_of, no_tables, values_of, after_of, room_fits, checked_of, unpack_call}
+use Rattle.mc_unpack.specs.Answer.{tables_by, no_tables, values_of, after_of, room_fits, checked_of, unpack_call}
 use Rattle.mc_unpack.specs.Settled.{settled_of, Decided, Numbered}
 use Rattle.mc_unpack.proofs.SettledLaws.{own-table, unpack-numbered, settled-writable}
-use Rattle.mc_values.specs.Values.{raw_from, lfe_from, SamplesFit, LfeFits}
+use Rattle.mc_values.specs.Values.{raw_from, lfe_from, excesses_from, SamplesFit, LfeFits}
 use Rattle.mc_payload.proofs.Demand3.Accepted.{unpack-accepts, lfe-low}
 
 -- ---- numbers of refusals
@@ -114,8 +115,10 @@ module _ (l : Loan) (bytes : List ℕ) (bits : ℕ) (raw lfe : List Float) (p : 
 
     pub accepted-after : (raw' lfe' : List Float) → raw' ≡ raw_from p.places.own p.codes.granules
         → lfe' ≡ lfe_from l.lfe p.codes.lf_scalefactor p.codes.granules
-        → (r : Unpacked) → (r.answer ≡ Accepted p.codes.cursor.at) × (values_of r ≡ tables_of (codes_of p.codes))
+        → (excesses : List ℕ) → excesses ≡ excesses_from p.places.own p.codes.granules
+        → (count : ℕ) → count ≡ excess_codes (excesses_from p.places.own p.codes.granules)
+        → (r : Unpacked) → (r.answer ≡ Accepted p.codes.cursor.at count) × (values_of r ≡ tables_by (codes_of p.codes) excesses)
         → after_of r raw' lfe' ≡ unpack_call l bytes bits raw lfe
     unfolding unpack_call settings_of
-    accepted-after raw' lfe' er el r e =
-        rw (accepted-checked, e.0, e.1, er, el, own-settings, raw-record (settings_of l) (codes_of p.codes), lfe-record l.lfe (codes_of p.codes))
+    accepted-after raw' lfe' er el excesses ex count ec r e =
+        rw (accepted-checked, e.0, e.1, er, el, ex, ec, own-settings, raw-record (settings_of l) (codes_of p.codes), lfe-record l.lfe (codes_of p.codes), excess-record (settings_of l) (codes_of p.codes))

@@ -16,8 +16,8 @@ use Rattle.mc_fields.specs.Head.{bits_if}
 use Rattle.mc_payload.specs.declared.McSettings.{McSettings}
 use Rattle.mc_payload.specs.Places.{own_at, place, own_of}
 use Rattle.mc_payload.specs.Payload.{Codes}
-use Rattle.mc_payload.specs.Record.{delays_of, coefs_of, sample_code_of, raw_at, raw_of, lfe_at, lfe_of}
-use Rattle.mc_values.specs.Values.{delays_in, delays_from, coef_by, coefs_in, coefs_from, three_codes, three_values, first_at, values_at, raw_by, raw_in, raw_from, lfe_by, lfe_from, SamplesFit, LfeFits}
+use Rattle.mc_payload.specs.Record.{delays_of, coefs_of, sample_code_of, excess_at, raw_at, raw_of, lfe_at, lfe_of, excesses_of}
+use Rattle.mc_values.specs.Values.{delays_in, delays_from, coef_by, coefs_in, coefs_from, three_codes, three_values, first_at, values_at, raw_by, raw_in, raw_from, code_excess, excess_by, excess_in, excesses_from, lfe_by, lfe_from, SamplesFit, LfeFits}
 use Rattle.mc_payload.proofs.Demand3.Widths.{CodesFit}
 
 -- ---- predictors and LFE samples
@@ -93,6 +93,20 @@ module _ (s : McSettings) (c : Codes) where
   pub raw-record : raw_from (own_of s) c.1.1.1.1 ≡ raw_of s c
   unfolding raw_from raw_of
   raw-record = tab-same 3456 (λ k h. raw-at (k / 1152) (k / 32 % 36) (k % 32) (omega arith) (omega arith))
+
+  -- ---- excesses of group codes
+
+  excess-at : (k : ℕ) → k < 1152 → excess_in (own_of s) c.1.1.1.1 k ≡ excess_at s c (k % 12) (k / 12 % 3) (k / 36)
+  unfolding excess_in excess_by code_excess excess_at own_of
+  excess-at k h =
+      let own : get_or (tab (place (own_at s)) 96) (k / 12) 0 ≡ own_at s (k / 12 % 3) (k / 12 / 3) = get_or-tab 0 (place (own_at s)) 96 (k / 12) (omega arith) in
+      let sb : k / 12 / 3 ≡ k / 36 = omega arith in
+      let at : first_at (k % 12) (k / 12) ≡ 289 * (k % 12) + 1 + 3 * (3 * (k / 36) + k / 12 % 3) + 0 = omega arith in
+      rw (own, sb, at)
+
+  pub excess-record : excesses_from (own_of s) c.1.1.1.1 ≡ excesses_of s c
+  unfolding excesses_from excesses_of
+  excess-record = tab-same 1152 (λ k h. excess-at k h)
 
 -- ---- the codes of an accepted payload
 

@@ -12,11 +12,10 @@ use Rattle.mc_places.specs.declared.places.Places.{Places}
 use Rattle.mc_payload.specs.Places.{own_at, steps_of, own_of}
 use Rattle.mc_places.specs.PlacesBy.{places_of}
 use Rattle.mc_payload.specs.Payload.{Codes, payload}
-use Rattle.mc_payload.proofs.PayloadYields.{FactorsBelow, payload-yields}
+use Rattle.mc_payload.proofs.PayloadYields.{payload-yields}
 use Rattle.mc_codes.specs.Outcome.{outcome_of}
 use Rattle.mc_unpack.proofs.RecordLaws.{samples-fit, lfe-fits}
 use Rattle.mc_payload.specs.Unpack.{steps_fit, loan_fits, allocations_fit, payload_of, Loan, settings_of, unpack_of}
-use Rattle.mc_values.specs.Values.{SamplesFit, LfeFits}
 use Rattle.mc_unpack.specs.Writable.{Writable}
 use Rattle.mc_unpack.specs.Settled.{settled_of, Numbered}
 use Rattle.mc_payload.proofs.Demand3.Accepted.{own-at, own-class}

@@ -7,35 +7,38 @@ use Rattle.mc_unpack.specs.declared.entry.Unpacked.{Unpacked}
 use Rattle.mc_unpack.specs.declared.entry.UnpackAnswer.{UnpackAnswer}
 use Rattle.mc_unpack.specs.declared.entry.UnpackAnswer.TheVariants.{Accepted, Refused}
 use Rattle.mc_payload.specs.Payload.{Codes}
-use Rattle.mc_payload.specs.Record.{raw_of, lfe_of}
+use Rattle.mc_payload.specs.Record.{raw_of, lfe_of, excesses_of, excess_codes}
 use Rattle.mc_payload.specs.Unpack.{Loan, settings_of, unpack_of}
 
--- the tables of a record: scfsi, predictor codes, the LFE channel's scalefactor index, and scalefactor indices
+-- the tables of a record: scfsi, predictor codes, the LFE channel's scalefactor index, scalefactor indices, and excesses of group codes
 abbrev pub Tables : Type 0
-Tables = List ℕ × (List ℕ × (ℕ × List ℕ))
+Tables = List ℕ × (List ℕ × (ℕ × (List ℕ × List ℕ)))
 
-abbrev pub tables_of : Codes → Tables
-tables_of c = (c.0, (c.1.0, (c.1.1.0, c.1.1.1.0)))
+abbrev pub tables_by : Codes → List ℕ → Tables
+tables_by c excesses = (c.0, (c.1.0, (c.1.1.0, (c.1.1.1.0, excesses))))
+
+abbrev pub tables_of : McSettings → Codes → Tables
+tables_of s c = tables_by c (excesses_of s c)
 
 abbrev pub no_tables : Tables
-no_tables = (replicate 96 0, (replicate 192 0, (0, replicate 288 0)))
+no_tables = (replicate 96 0, (replicate 192 0, (0, (replicate 288 0, replicate 1152 0))))
 
 -- ---- what is left
 
 pub record After : Type 0 where
-  -- accepted, with the used bits; or refused, with document 01's number
-  pub outcome : Outcome Tables
+  -- accepted, with the number of group codes that have an excess and the used bits; or refused, with document 01's number
+  pub outcome : Outcome (Tables × ℕ)
   pub tables : Tables
   pub raw : List Float
   pub lfe : List Float
 
 -- what the call's answer says, beside the buffers
-abbrev pub answered : UnpackAnswer → Tables → Outcome Tables
-answered (Accepted used) t = accepted t used
+abbrev pub answered : UnpackAnswer → Tables → Outcome (Tables × ℕ)
+answered (Accepted used excess_codes) t = accepted (t, excess_codes) used
 answered (Refused e) t = refused (refusal_of e)
 
 abbrev pub values_of : Unpacked → Tables
-values_of r = (r.scfsi, (r.predictors, (r.lf_scalefactor, r.scalefactors)))
+values_of r = (r.scfsi, (r.predictors, (r.lf_scalefactor, (r.scalefactors, r.excesses))))
 
 abbrev pub after_of : Unpacked → List Float → List Float → After
 after_of r raw lfe = record { outcome = answered r.answer (values_of r); tables = values_of r; raw = raw; lfe = lfe }
@@ -50,7 +53,7 @@ checked_of l bytes bits raw lfe = cond (room_fits raw lfe) (unpack_of l bytes bi
 -- the record's tables and samples; a refusal leaves both buffers as they were
 abbrev pub leaves : McSettings → List Float → List Float → Outcome Codes → After
 leaves s raw lfe (accepted c used) =
-    record { outcome = accepted (tables_of c) used; tables = tables_of c; raw = raw_of s c; lfe = lfe_of s.lfe_allocation c }
+    record { outcome = accepted (tables_of s c, excess_codes (excesses_of s c)) used; tables = tables_of s c; raw = raw_of s c; lfe = lfe_of s.lfe_allocation c }
 leaves s raw lfe (refused x) = record { outcome = refused x; tables = no_tables; raw = raw; lfe = lfe }
 
 unfoldable pub unpack_call : Loan → List ℕ → ℕ → List Float → List Float → After

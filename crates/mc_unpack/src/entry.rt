@@ -5,7 +5,7 @@ ghost use Rattle.mc_error.specs.Error.{refusal_of};
 ghost use Rattle.mc_codes.specs.Outcome.{codes_of, outcome_of};
 ghost use Rattle.mc_places.specs.PlacesBy.{places_of};
 ghost use Rattle.mc_payload.specs.Unpack.{loan_by};
-ghost use Rattle.mc_unpack.specs.Answer.{tables_of, no_tables, values_of, after_of, unpack_call};
+ghost use Rattle.mc_unpack.specs.Answer.{tables_by, no_tables, values_of, after_of, unpack_call};
 ghost use Rattle.mc_unpack.specs.Settled.{settled_of, Decided, Numbered};
 
 use cursor::Cursor;
@@ -17,12 +17,15 @@ use mc_fields::McStatus;
 use mc_loan::{loan_fits, settings};
 use mc_payload::McSettings;
 use mc_places::{Places, places_of};
-use mc_samples::{write_lfe, write_raw};
+use mc_samples::{excesses, write_lfe, write_raw};
 
-// The bits that the payload uses, or why it is refused.
+// The bits that the payload uses and how many of its group codes have an excess, or why it is refused.
 #[derive(Clone, Copy)]
 pub enum UnpackAnswer {
-    Accepted(usize),
+    Accepted {
+        payload_bits: usize,
+        excess_codes: u32,
+    },
     Refused(McError),
 }
 
@@ -35,21 +38,27 @@ pub struct Unpacked {
     pub predictors: [u8; 192],
     pub lf_scalefactor: u8,
     pub scalefactors: [u8; 288],
+    // what group codes hold beyond their digits, by place and granule at 12 * place + granule
+    pub excesses: [u16; 1152],
 }
 
 impl Unpacked {
-    fn accepted(codes: PayloadCodes) -> Unpacked
-        ensures { (result.answer ≡ UnpackAnswer.Accepted codes.cursor.at) × (values_of result ≡ tables_of (codes_of codes)) }
+    fn accepted(codes: PayloadCodes, excesses: [u16; 1152], excess_codes: u32) -> Unpacked
+        ensures { (result.answer ≡ UnpackAnswer.Accepted codes.cursor.at excess_codes) × (values_of result ≡ tables_by (codes_of codes) excesses) }
     {
         let scfsi = codes.scfsi;
         let predictors = codes.predictors;
         let scalefactors = codes.scalefactors;
         Unpacked {
-            answer: UnpackAnswer::Accepted(codes.cursor.at),
+            answer: UnpackAnswer::Accepted {
+                payload_bits: codes.cursor.at,
+                excess_codes,
+            },
             scfsi,
             predictors,
             lf_scalefactor: codes.lf_scalefactor,
             scalefactors,
+            excesses,
         }
     }
 
@@ -62,6 +71,7 @@ impl Unpacked {
             predictors: [0; 192],
             lf_scalefactor: 0,
             scalefactors: [0; 288],
+            excesses: [0; 1152],
         }
     }
 }
@@ -229,8 +239,9 @@ pub fn unpack(
     if err != 0 {
         return Unpacked::refused(error_of(err));
     }
-    write_raw(&payload.places.own, &payload.codes.granules, raw);
+    let excess_codes = write_raw(&payload.places.own, &payload.codes.granules, raw);
     let lf_scalefactor = payload.codes.lf_scalefactor;
     write_lfe(lfe_allocation, lf_scalefactor, &payload.codes.granules, lfe);
-    Unpacked::accepted(payload.codes)
+    let excesses = excesses(&payload.places.own, &payload.codes.granules);
+    Unpacked::accepted(payload.codes, excesses, excess_codes)
 }

@@ -5,7 +5,7 @@ use Rattle.fill.specs.Tab.{tab}
 use Rattle.floats.specs.Binary64.{zero64}
 use Rattle.bitalloc.specs.Classes.{class_of, grouped, bits_per_codeword}
 use Rattle.bitalloc.specs.declared.QuantClass.{QuantClass}
-use Rattle.requant.specs.Requant.{requantized, degrouped, lfe_sample_of, coefficient_of}
+use Rattle.requant.specs.Requant.{requantized, degrouped, excess_of, lfe_sample_of, coefficient_of}
 use Rattle.mc_fields.specs.Head.{count_at}
 
 -- ---- predictors, by their table of codes
@@ -33,7 +33,11 @@ coefs_from predsi codes = tab (coefs_in predsi codes) 8
 unfoldable pub three_codes : Bool → ℕ → ℕ → ℕ → ℕ → List ℕ
 three_codes group steps x y z = cond group (degrouped steps x) (x ∷ y ∷ z ∷ [])
 
--- and their values
+-- and the excess of a group code; 0 where x is none
+unfoldable pub code_excess : Bool → ℕ → ℕ → ℕ
+code_excess group steps x = cond group (excess_of steps x) 0
+
+-- the values of the three
 unfoldable pub three_values : QuantClass → ℕ → ℕ → ℕ → List Float
 three_values class x y z =
     let codes = three_codes class.grouping class.nb_steps x y z in
@@ -59,6 +63,17 @@ raw_in own granules m slot sb =
 
 unfoldable pub raw_from : List ℕ → List ℕ → List Float
 raw_from own granules = tab (λ k. raw_in own granules (k / 1152) (k / 32 % 36) (k % 32)) 3456
+
+-- the excess of place i, of n steps, in granule gr
+unfoldable pub excess_by : ℕ → List ℕ → ℕ → ℕ → ℕ
+excess_by n granules i gr = code_excess (grouped n) n (get_or granules (first_at gr i) 0)
+
+-- by place and granule
+unfoldable pub excess_in : List ℕ → List ℕ → ℕ → ℕ
+excess_in own granules k = excess_by (get_or own (k / 12) 0) granules (k / 12) (k % 12)
+
+unfoldable pub excesses_from : List ℕ → List ℕ → List ℕ
+excesses_from own granules = tab (excess_in own granules) 1152
 
 -- an LFE sample by its allocation, scalefactor index and code
 unfoldable pub lfe_by : ℕ → ℕ → ℕ → Float

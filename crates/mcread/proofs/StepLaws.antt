@@ -17,8 +17,8 @@ module _ (n : Numbers) (f : Framed) (w : Buffers) (a : After) (e : after_of f w 
   pub step-refused : (x : McError) → f.answer ≡ Refused x → ◌≡◌ {A = Step} (record { state = f.state; kind = 1; desk = n.desk }) (step_of n a)
   step-refused x q = rw (← e, q)
 
-  pub step-accepted : (h p : ℕ) → f.answer ≡ Accepted h p → ◌≡◌ {A = Step} (record { state = f.state; kind = 0; desk = n.desk }) (step_of n a)
-  step-accepted h p q = rw (← e, q)
+  pub step-accepted : (h p c : ℕ) → f.answer ≡ Accepted h p c → ◌≡◌ {A = Step} (record { state = f.state; kind = 0; desk = n.desk }) (step_of n a)
+  step-accepted h p c q = rw (← e, q)
 
 -- ---- the state before a frame
 

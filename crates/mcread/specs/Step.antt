@@ -1,10 +1,10 @@
 -- What becomes of a frame of a file: the state is carried where the frame asks for it, then comes the frame call on buffers of zeros. Definitions only.
 use Rattle.std.specs.Prelude.{cond, List, ℕ, eqb, ltb, replicate, set}
-use Rattle.bits.specs.Syntax.{Outcome, accepted, refused}
+use Rattle.bits.specs.Syntax.{accepted, refused}
 use Rattle.floats.specs.Binary64.{zero64}
 use Rattle.mc_state.specs.Answer.{buffers_from}
 use Rattle.mc_state.specs.Carry.{carried_over}
-use Rattle.mc_state.specs.Frame.{After, frame_of}
+use Rattle.mc_state.specs.Frame.{Answer, After, frame_of}
 use Rattle.mc_state.specs.declared.McDecodeState.{McDecodeState}
 use Rattle.mcread.specs.declared.input.Step.{Step}
 use Rattle.frame_file.specs.declared.numbers.Numbers.{Numbers}
@@ -18,8 +18,8 @@ unfoldable pub after_frame : Numbers → List ℕ → McDecodeState → After
 after_frame n body state = frame_of (lent_in n body) (buffers_from (replicate 3456 zero64) (replicate 3456 zero64) (replicate 5760 zero64) (replicate 12 zero64)) (before_frame n state)
 
 -- 0 for an accepted frame, 1 for a refused one
-abbrev pub kind_of : Outcome ℕ → ℕ
-kind_of (accepted head_bits payload_bits) = 0
+abbrev pub kind_of : Answer → ℕ
+kind_of (accepted (head_bits, excess_codes) payload_bits) = 0
 kind_of (refused r) = 1
 
 -- the state that the next frame follows on, what became of this one, and its desk

@@ -6,7 +6,7 @@ ghost use Rattle.mcread.specs.Step.{before_frame, after_frame, step_of, marked_o
 
 use crate::report;
 use encoding::{u8_at, u32_at};
-use frame_body::{decode_body, first_state, layout_of, second_state};
+use frame_body::{decode_body, first_state, layout_in, second_state};
 use frame_file::{
     Numbers, body_bytes, fault_of, number_bytes, numbers_of, opening_fault, version_of,
 };
@@ -49,34 +49,6 @@ fn read_full(input: &mut impl Read, buf: &mut [u8]) -> io::Result<usize>
 fn read_whole(input: &mut impl Read, buf: &mut [u8]) -> io::Result<bool> {
     let want = buf.len();
     Ok(read_full(input, buf)? == want)
-}
-
-// Prints an accepted frame.
-fn print_accepted(
-    out: &mut Out<impl Print>,
-    number: u64,
-    n: Numbers,
-    body: &[u8],
-    head_bits: usize,
-    payload_bits: usize,
-    lfe: &[f64],
-    output: &[f64],
-)
-    requires { Whole n body.now }
-{
-    let from = 128 * n.base_channels as usize + 384;
-    let to = from + n.head_bytes as usize;
-    let layout = layout_of(
-        &body[from..to],
-        n.head_bits as usize,
-        n.reading,
-        n.base_channels,
-    );
-    report::put_accepted(out, number, layout, head_bits, payload_bits);
-    if 0 < n.lfe_allocation {
-        report::put_lfe(out, lfe);
-    }
-    report::put_channels(out, layout, output);
 }
 
 // Carries the state where the frame asks for it, and prints that.
@@ -129,8 +101,11 @@ fn decode_frame(
         McAnswer::Accepted {
             head_bits,
             payload_bits,
+            excess_codes,
         } => {
-            print_accepted(out, number, n, body, head_bits, payload_bits, &lfe, &output);
+            let layout = layout_in(n, body);
+            report::put_accepted(out, number, layout, head_bits, payload_bits, excess_codes);
+            report::put_values(out, n.lfe_allocation, layout, &lfe, &output);
             Step {
                 state: next,
                 kind: ACCEPTED,

@@ -49,14 +49,18 @@ pub fn put_accepted(
     layout: Layout,
     head_bits: usize,
     payload_bits: usize,
+    excess_codes: u32,
 ) {
     put_frame(out, number);
     put_names(out, layout);
-    writeln!(out, "- {head_bits} head bits, {payload_bits} payload bits");
+    writeln!(
+        out,
+        "- {head_bits} head bits, {payload_bits} payload bits, {excess_codes} excess codes"
+    );
 }
 
 // The LFE samples.
-pub fn put_lfe(out: &mut Out<impl Print>, lfe: &[f64]) {
+fn put_lfe(out: &mut Out<impl Print>, lfe: &[f64]) {
     out.put(b"  lfe");
     for x in lfe {
         out.put(b" ");
@@ -78,7 +82,7 @@ fn put_channel(out: &mut Out<impl Print>, channel: u8, values: &[f64]) {
 }
 
 // Each output channel of the layout.
-pub fn put_channels(out: &mut Out<impl Print>, layout: Layout, output: &[f64]) {
+fn put_channels(out: &mut Out<impl Print>, layout: Layout, output: &[f64]) {
     let names = layout.channels;
     for c in 0usize..5 {
         let from = 1152 * c;
@@ -89,6 +93,20 @@ pub fn put_channels(out: &mut Out<impl Print>, layout: Layout, output: &[f64]) {
             }
         }
     }
+}
+
+// The values of an accepted frame; LFE samples only where there are some.
+pub fn put_values(
+    out: &mut Out<impl Print>,
+    lfe_allocation: u8,
+    layout: Layout,
+    lfe: &[f64],
+    output: &[f64],
+) {
+    if 0 < lfe_allocation {
+        put_lfe(out, lfe);
+    }
+    put_channels(out, layout, output);
 }
 
 // A refusal's number and words, to the end of the line.

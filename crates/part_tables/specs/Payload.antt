@@ -6,7 +6,7 @@ use Rattle.fill.specs.Tab.{tab}
 use Rattle.mc_fields.specs.Lent.{string_fits, head_of}
 use Rattle.mc_payload.specs.Unpack.{loan_by, loan_fits, settings_of, unpack_of}
 use Rattle.mc_payload.specs.Payload.{Codes}
-use Rattle.mc_payload.specs.Record.{lf_scalefactor_of, record_of}
+use Rattle.mc_payload.specs.Record.{lf_scalefactor_of, record_of, excess_codes}
 use Rattle.mc_payload.specs.declared.McSettings.{McSettings}
 use Rattle.part_tables.specs.Parts.{Head, packed_refusal}
 
@@ -49,12 +49,14 @@ pub record Buffers : Type 0 where
   pub coefs : List Float
   -- place and part at 3 place + part
   pub scalefactors : List ℕ
+  -- place and granule at 12 place + granule
+  pub excesses : List ℕ
   pub raw : List Float
   pub lfe : List Float
 
-abbrev pub buffers_from : List ℕ → List ℕ → List Float → List ℕ → List Float → List Float → Buffers
-buffers_from scfsi delays coefs scalefactors raw lfe =
-    record { scfsi = scfsi; delays = delays; coefs = coefs; scalefactors = scalefactors; raw = raw; lfe = lfe }
+abbrev pub buffers_from : List ℕ → List ℕ → List Float → List ℕ → List ℕ → List Float → List Float → Buffers
+buffers_from scfsi delays coefs scalefactors excesses raw lfe =
+    record { scfsi = scfsi; delays = delays; coefs = coefs; scalefactors = scalefactors; excesses = excesses; raw = raw; lfe = lfe }
 
 -- the answer, packed, and what the buffers hold
 pub record After : Type 0 where
@@ -67,21 +69,21 @@ after_by n w = record { answer = n; buffers = w }
 -- ---- refusal 6
 
 -- lengths of the buffers
-abbrev pub room_fits : ℕ → ℕ → ℕ → ℕ → ℕ → ℕ → Bool
-room_fits scfsi delays coefs scalefactors raw lfe =
-    eqb scfsi 96 && (eqb delays 48 && (eqb coefs 144 && (eqb scalefactors 288 && (eqb raw 3456 && eqb lfe 12))))
+abbrev pub room_fits : ℕ → ℕ → ℕ → ℕ → ℕ → ℕ → ℕ → Bool
+room_fits scfsi delays coefs scalefactors excesses raw lfe =
+    eqb scfsi 96 && (eqb delays 48 && (eqb coefs 144 && (eqb scalefactors 288 && (eqb excesses 1152 && (eqb raw 3456 && eqb lfe 12)))))
 
 -- all that is lent, the buffers by their lengths, is as documents 01 and 02 say
-unfoldable pub lent_by : Lent → ℕ → ℕ → ℕ → ℕ → ℕ → ℕ → Bool
-lent_by l scfsi delays coefs scalefactors raw lfe =
+unfoldable pub lent_by : Lent → ℕ → ℕ → ℕ → ℕ → ℕ → ℕ → ℕ → Bool
+lent_by l scfsi delays coefs scalefactors excesses raw lfe =
     string_fits l.head l.head_bits
     && (string_fits l.payload l.payload_bits
     && (loan_fits l.reading l.rate l.base_channels l.lfe l.steps l.base_steps
-    && room_fits scfsi delays coefs scalefactors raw lfe))
+    && room_fits scfsi delays coefs scalefactors excesses raw lfe))
 
 -- else wrong loan, refusal 6
 abbrev pub lent_fits : Lent → Buffers → Bool
-lent_fits l w = lent_by l (length w.scfsi) (length w.delays) (length w.coefs) (length w.scalefactors) (length w.raw) (length w.lfe)
+lent_fits l w = lent_by l (length w.scfsi) (length w.delays) (length w.coefs) (length w.scalefactors) (length w.excesses) (length w.raw) (length w.lfe)
 
 -- ---- the record, one entry after another
 
@@ -99,16 +101,16 @@ flat_coefs c = tab (λ (k : ℕ). get_or (get_or (get_or c (k / 18) []) (k / 3 %
 
 -- ---- the whole call
 
--- number 0 in the low 8 bits, the used payload bits in the next 24, and the LFE's scalefactor index in the rest
-abbrev pub packed_used : ℕ → ℕ → ℕ
-packed_used used lf_factor = used % 16777216 * 256 + lf_factor * 4294967296
+-- number 0 in the low 8 bits, the used payload bits in the next 24, the LFE's scalefactor index in the next 8, and the number of excesses in the rest
+abbrev pub packed_used : ℕ → ℕ → ℕ → ℕ
+packed_used used lf_factor excess_codes = used % 16777216 * 256 + lf_factor * 4294967296 + excess_codes % 16777216 * 1099511627776
 
 -- what a payload of these codes leaves; a refusal leaves every buffer as it was
 unfoldable pub left_by : McSettings → Buffers → Outcome Codes → After
 left_by s w (accepted c used) =
     let r = record_of s c in
-    after_by (packed_used used (lf_scalefactor_of c))
-    (buffers_from (entries 96 c.0) (flat_delays r.delay) (flat_coefs r.coef) (entries 288 r.scalefactor) r.raw r.lfe)
+    after_by (packed_used used (lf_scalefactor_of c) (excess_codes r.excess))
+    (buffers_from (entries 96 c.0) (flat_delays r.delay) (flat_coefs r.coef) (entries 288 r.scalefactor) (entries 1152 r.excess) r.raw r.lfe)
 left_by s w (refused x) = after_by (packed_refusal x) w
 
 unfoldable pub under_head : Lent → Buffers → Head → After

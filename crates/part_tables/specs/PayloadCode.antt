@@ -6,22 +6,26 @@ use Rattle.mc_values.specs.Values.{delays_from, coefs_from}
 use Rattle.part_tables.specs.Parts.{packed_refusal}
 use Rattle.part_tables.specs.Payload.{packed_used, entries, flat_delays, flat_coefs}
 
-abbrev pub scfsi_after : Outcome Tables → List ℕ → List ℕ
-scfsi_after (accepted t used) old = entries 96 t.0
+abbrev pub scfsi_after : Outcome (Tables × ℕ) → List ℕ → List ℕ
+scfsi_after (accepted (t, excess_codes) used) old = entries 96 t.0
 scfsi_after (refused x) old = old
 
-abbrev pub delays_after : Outcome Tables → List ℕ → List ℕ
-delays_after (accepted t used) old = flat_delays (delays_from t.1.0)
+abbrev pub delays_after : Outcome (Tables × ℕ) → List ℕ → List ℕ
+delays_after (accepted (t, excess_codes) used) old = flat_delays (delays_from t.1.0)
 delays_after (refused x) old = old
 
-abbrev pub coefs_after : List ℕ → Outcome Tables → List Float → List Float
-coefs_after predsi (accepted t used) old = flat_coefs (coefs_from predsi t.1.0)
+abbrev pub coefs_after : List ℕ → Outcome (Tables × ℕ) → List Float → List Float
+coefs_after predsi (accepted (t, excess_codes) used) old = flat_coefs (coefs_from predsi t.1.0)
 coefs_after predsi (refused x) old = old
 
-abbrev pub scalefactors_after : Outcome Tables → List ℕ → List ℕ
-scalefactors_after (accepted t used) old = entries 288 t.1.1.1
+abbrev pub scalefactors_after : Outcome (Tables × ℕ) → List ℕ → List ℕ
+scalefactors_after (accepted (t, excess_codes) used) old = entries 288 t.1.1.1.0
 scalefactors_after (refused x) old = old
 
-abbrev pub packed_tables : Outcome Tables → ℕ
-packed_tables (accepted t used) = packed_used used t.1.1.0
+abbrev pub excesses_after : Outcome (Tables × ℕ) → List ℕ → List ℕ
+excesses_after (accepted (t, excess_codes) used) old = entries 1152 t.1.1.1.1
+excesses_after (refused x) old = old
+
+abbrev pub packed_tables : Outcome (Tables × ℕ) → ℕ
+packed_tables (accepted (t, excess_codes) used) = packed_used used t.1.1.0 excess_codes
 packed_tables (refused x) = packed_refusal x

@@ -3,7 +3,7 @@ ghost use Rattle.std.specs.Prelude.{◌≡◌, length};
 ghost use Rattle.mc_unpack.specs.Answer.{answered, values_of};
 ghost use Rattle.mc_values.specs.Values.{delays_from, coefs_from};
 ghost use Rattle.part_tables.specs.Payload.{entries, flat_delays, flat_coefs};
-ghost use Rattle.part_tables.specs.PayloadCode.{scfsi_after, delays_after, coefs_after, scalefactors_after, packed_tables};
+ghost use Rattle.part_tables.specs.PayloadCode.{scfsi_after, delays_after, coefs_after, scalefactors_after, excesses_after, packed_tables};
 
 use crate::pack_refusal;
 use mc_unpack::{UnpackAnswer, Unpacked};
@@ -22,6 +22,15 @@ fn write_scalefactors(table: &[u8; 288], out: &mut [u8])
     ensures { out.new ≡ entries 288 table.now }
 {
     for k in 0usize..288 {
+        out[k] = table[k];
+    }
+}
+
+fn write_excesses(table: &[u16; 1152], out: &mut [u16])
+    requires { length out.old ≡ 1152 }
+    ensures { out.new ≡ entries 1152 table.now }
+{
+    for k in 0usize..1152 {
         out[k] = table[k];
     }
 }
@@ -50,36 +59,46 @@ fn write_coefs(predsi: &[u8; 56], codes: &[u8; 192], out: &mut [f64])
 
 // Writes the tables of an accepted payload, and nothing of a refused one.
 pub fn write_tables(
-    u: Unpacked,
+    u: &Unpacked,
     predsi: &[u8; 56],
     scfsi: &mut [u8],
     delays: &mut [u8],
     coefs: &mut [f64],
     scalefactors: &mut [u8],
+    excesses: &mut [u16],
 )
-    requires { (length scfsi.old ≡ 96) × (length delays.old ≡ 48) × (length coefs.old ≡ 144) × (length scalefactors.old ≡ 288) }
-    ensures { (scfsi.new ≡ scfsi_after (answered u.answer (values_of u)) scfsi.old) × (delays.new ≡ delays_after (answered u.answer (values_of u)) delays.old) × (coefs.new ≡ coefs_after predsi.now (answered u.answer (values_of u)) coefs.old) × (scalefactors.new ≡ scalefactors_after (answered u.answer (values_of u)) scalefactors.old) }
+    requires { (length scfsi.old ≡ 96) × (length delays.old ≡ 48) × (length coefs.old ≡ 144) × (length scalefactors.old ≡ 288) × (length excesses.old ≡ 1152) }
+    ensures { (scfsi.new ≡ scfsi_after (answered u.now.answer (values_of u.now)) scfsi.old) × (delays.new ≡ delays_after (answered u.now.answer (values_of u.now)) delays.old) × (coefs.new ≡ coefs_after predsi.now (answered u.now.answer (values_of u.now)) coefs.old) × (scalefactors.new ≡ scalefactors_after (answered u.now.answer (values_of u.now)) scalefactors.old) × (excesses.new ≡ excesses_after (answered u.now.answer (values_of u.now)) excesses.old) }
 {
     let answer = u.answer;
     match answer {
-        UnpackAnswer::Accepted(_) => {
+        UnpackAnswer::Accepted {
+            payload_bits: _,
+            excess_codes: _,
+        } => {
             write_scfsi(&u.scfsi, scfsi);
             write_delays(&u.predictors, delays);
             write_coefs(predsi, &u.predictors, coefs);
             write_scalefactors(&u.scalefactors, scalefactors);
+            write_excesses(&u.excesses, excesses);
         }
         UnpackAnswer::Refused(_) => {}
     }
 }
 
 // The answer as one number.
-pub fn pack_tables(u: Unpacked) -> u64
-    ensures { result ≡ packed_tables (answered u.answer (values_of u)) }
+pub fn pack_tables(u: &Unpacked) -> u64
+    ensures { result ≡ packed_tables (answered u.now.answer (values_of u.now)) }
 {
     let answer = u.answer;
     match answer {
-        UnpackAnswer::Accepted(used) => {
-            (used % 16777216) as u64 * 256 + u.lf_scalefactor as u64 * 4294967296
+        UnpackAnswer::Accepted {
+            payload_bits,
+            excess_codes,
+        } => {
+            (payload_bits % 16777216) as u64 * 256
+                + u.lf_scalefactor as u64 * 4294967296
+                + (excess_codes % 16777216) as u64 * 1099511627776
         }
         UnpackAnswer::Refused(e) => pack_refusal(e),
     }

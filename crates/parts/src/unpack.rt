@@ -16,14 +16,16 @@ fn room_fits(
     delays: usize,
     coefs: usize,
     scalefactors: usize,
+    excesses: usize,
     raw: usize,
     lfe: usize,
 ) -> bool
-    ensures { result ≡ room_fits scfsi delays coefs scalefactors raw lfe }
+    ensures { result ≡ room_fits scfsi delays coefs scalefactors excesses raw lfe }
 {
     (scfsi == 96)
         & ((delays == 48)
-            & ((coefs == 144) & ((scalefactors == 288) & ((raw == 3456) & (lfe == 12)))))
+            & ((coefs == 144)
+                & ((scalefactors == 288) & ((excesses == 1152) & ((raw == 3456) & (lfe == 12))))))
 }
 
 // Whether all that is lent is as it has to be (refusal 6); the buffers come by their lengths.
@@ -42,10 +44,11 @@ fn lent_fits(
     delays: usize,
     coefs: usize,
     scalefactors: usize,
+    excesses: usize,
     raw: usize,
     lfe: usize,
 ) -> bool
-    ensures { result ≡ lent_by (lent_of head.now head_bits payload.now payload_bits reading rate base_channels lfe_allocation nb_steps.now base_nb_steps.now) scfsi delays coefs scalefactors raw lfe }
+    ensures { result ≡ lent_by (lent_of head.now head_bits payload.now payload_bits reading rate base_channels lfe_allocation nb_steps.now base_nb_steps.now) scfsi delays coefs scalefactors excesses raw lfe }
 {
     let heads = string_fits(head, head_bits);
     let payloads = string_fits(payload, payload_bits);
@@ -57,7 +60,7 @@ fn lent_fits(
         nb_steps,
         base_nb_steps,
     );
-    let room = room_fits(scfsi, delays, coefs, scalefactors, raw, lfe);
+    let room = room_fits(scfsi, delays, coefs, scalefactors, excesses, raw, lfe);
     heads & (payloads & (loan & room))
 }
 
@@ -77,11 +80,12 @@ fn unpack_under(
     delays: &mut [u8],
     coefs: &mut [f64],
     scalefactors: &mut [u8],
+    excesses: &mut [u16],
     raw: &mut [f64],
     lfe: &mut [f64],
 ) -> u64
-    requires { (length scfsi.old ≡ 96) × (length delays.old ≡ 48) × (length coefs.old ≡ 144) × (length scalefactors.old ≡ 288) × (length raw.old ≡ 3456) × (length lfe.old ≡ 12) }
-    ensures { after_by result (buffers_from scfsi.new delays.new coefs.new scalefactors.new raw.new lfe.new) ≡ left_by (settings_of (loan_by reading rate base_channels header status lfe_allocation nb_steps.now base_nb_steps.now)) (buffers_from scfsi.old delays.old coefs.old scalefactors.old raw.old lfe.old) (unpack_of (loan_by reading rate base_channels header status lfe_allocation nb_steps.now base_nb_steps.now) payload.now payload_bits) }
+    requires { (length scfsi.old ≡ 96) × (length delays.old ≡ 48) × (length coefs.old ≡ 144) × (length scalefactors.old ≡ 288) × (length excesses.old ≡ 1152) × (length raw.old ≡ 3456) × (length lfe.old ≡ 12) }
+    ensures { after_by result (buffers_from scfsi.new delays.new coefs.new scalefactors.new excesses.new raw.new lfe.new) ≡ left_by (settings_of (loan_by reading rate base_channels header status lfe_allocation nb_steps.now base_nb_steps.now)) (buffers_from scfsi.old delays.old coefs.old scalefactors.old excesses.old raw.old lfe.old) (unpack_of (loan_by reading rate base_channels header status lfe_allocation nb_steps.now base_nb_steps.now) payload.now payload_bits) }
 {
     let predsi = status.mc_prediction;
     let u = unpack(
@@ -98,8 +102,8 @@ fn unpack_under(
         raw,
         lfe,
     );
-    write_tables(u, &predsi, scfsi, delays, coefs, scalefactors);
-    pack_tables(u)
+    write_tables(&u, &predsi, scfsi, delays, coefs, scalefactors, excesses);
+    pack_tables(&u)
 }
 
 // Reads the head, then unpacks the payload under it into the buffers of the record. After a refusal all are as they were.
@@ -119,10 +123,11 @@ pub extern "C" fn mc_part_unpack(
     delays: &mut [u8],
     coefs: &mut [f64],
     scalefactors: &mut [u8],
+    excesses: &mut [u16],
     raw: &mut [f64],
     lfe: &mut [f64],
 ) -> u64
-    ensures { after_by result (buffers_from scfsi.new delays.new coefs.new scalefactors.new raw.new lfe.new) ≡ part_of (lent_of head.now head_bits payload.now payload_bits reading rate base_channels lfe_allocation nb_steps.now base_nb_steps.now) (buffers_from scfsi.old delays.old coefs.old scalefactors.old raw.old lfe.old) }
+    ensures { after_by result (buffers_from scfsi.new delays.new coefs.new scalefactors.new excesses.new raw.new lfe.new) ≡ part_of (lent_of head.now head_bits payload.now payload_bits reading rate base_channels lfe_allocation nb_steps.now base_nb_steps.now) (buffers_from scfsi.old delays.old coefs.old scalefactors.old excesses.old raw.old lfe.old) }
 {
     if !lent_fits(
         head,
@@ -139,6 +144,7 @@ pub extern "C" fn mc_part_unpack(
         delays.len(),
         coefs.len(),
         scalefactors.len(),
+        excesses.len(),
         raw.len(),
         lfe.len(),
     ) {
@@ -166,6 +172,7 @@ pub extern "C" fn mc_part_unpack(
                 delays,
                 coefs,
                 scalefactors,
+                excesses,
                 raw,
                 lfe,
             )

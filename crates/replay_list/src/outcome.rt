@@ -1,11 +1,10 @@
 // What a frame answers and leaves behind, as six numbers, and how two such outcomes differ.
 ghost use Rattle.std.specs.Prelude.{◌≡◌, ◌+◌, length};
-ghost use Rattle.mc_state.specs.Answer.{packed, outcome_of};
 ghost use Rattle.replay_list.specs.Outcome.{hash_of, hash_numbers, state_hash, listed_of, reached_of, differences_of};
 
 use encoding::number_at;
 use hash::{hash_floats, hash_number};
-use mc_state::{McAnswer, McDecodeState};
+use mc_state::{McAnswer, McDecodeState, pack};
 
 const EMPTY_HASH: u64 = 0xCBF29CE484222325;
 
@@ -18,23 +17,6 @@ pub struct Outcome {
     pub output: u64,
     pub lfe: u64,
     pub state: u64,
-}
-
-// The answer as one number.
-fn pack(answer: McAnswer) -> u64
-    ensures { result ≡ packed (outcome_of answer) }
-{
-    match answer {
-        McAnswer::Accepted {
-            head_bits,
-            payload_bits,
-        } => {
-            (head_bits % 16777216) as u64 * 256 + (payload_bits % 4294967296) as u64 * 4294967296
-        }
-        McAnswer::Refused(e) => {
-            e.number() as u64 + (e.group() % 16777216) as u64 * 256 + e.code() as u64 * 4294967296
-        }
-    }
 }
 
 fn hash(xs: &[f64]) -> u64

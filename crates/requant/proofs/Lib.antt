@@ -4,5 +4,6 @@ mod Literal
 pub mod AsRaw
 pub mod Constants
 pub mod Digits
+pub mod Excess
 pub mod Fits
 pub mod Flip

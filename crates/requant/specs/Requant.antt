@@ -1,6 +1,6 @@
 -- The values of codes: a class's samples, grouped codes, LFE samples, prediction coefficients. Definitions only.
 -- Each operation on floats rounds once to an f64, in the order of the Rust, as document 01 asks.
-use Rattle.std.specs.Prelude.{false, cond, List, [], ◌∷◌, ℕ, ◌+◌, ◌-◌, ◌/◌, ◌%◌, ◌^◌, ℤ, pos, ltb, Float}
+use Rattle.std.specs.Prelude.{◌≡◌, false, cond, List, [], ◌∷◌, ℕ, ◌+◌, ◌-◌, ◌*◌, ◌/◌, ◌%◌, ◌^◌, ℤ, pos, ltb, Float, get_or}
 use Rattle.std.specs.Int.Bits.{bit_xor}
 use Rattle.std.specs.Float.{binary64}
 use Rattle.std.specs.Float.Ieee.{minus, round, add, sub, mul, div, of_int}
@@ -39,6 +39,18 @@ raw_of steps code = requantized (class_of steps) code
 -- ---- the same clause: the three samples of a grouped code c, s[i] = c % nlevels; c = c DIV nlevels
 unfoldable pub degrouped : ℕ → ℕ → List ℕ
 degrouped nlevels c = c % nlevels ∷ c / nlevels % nlevels ∷ c / nlevels / nlevels % nlevels ∷ []
+
+-- what c is after that: the excess, which is 0 for a code below the cube of nlevels (document 02, L2)
+unfoldable pub excess_of : ℕ → ℕ → ℕ
+excess_of nlevels c = c / nlevels / nlevels / nlevels
+
+-- the number that three digits write
+unfoldable pub number_of : ℕ → List ℕ → ℕ
+number_of nlevels digits = (get_or digits 2 0 * nlevels + get_or digits 1 0) * nlevels + get_or digits 0 0
+
+-- any code, for any number of steps, is its digits' number and the cube of the steps times its excess
+abbrev pub Whole : Type 0
+Whole = (nlevels c : ℕ) → number_of nlevels (degrouped nlevels c) + nlevels ^ 3 * excess_of nlevels c ≡ c
 
 -- ---- ISO/IEC 13818-3, 2.5.3.2.4: the low frequency enhancement channel, nb bits to a sample
 

@@ -2,7 +2,7 @@
 #![tactic(auto)]
 
 ghost use Rattle.std.specs.Prelude.{◌≡◌, ◌<◌, ◌≤◌, ◌^◌, ◌+◌};
-ghost use Rattle.requant.specs.Requant.{fraction, requantized, degrouped, lfe_of, lfe_sample_of, coefficient_of};
+ghost use Rattle.requant.specs.Requant.{fraction, requantized, degrouped, excess_of, lfe_of, lfe_sample_of, coefficient_of};
 
 use bitalloc::QuantClass;
 
@@ -27,17 +27,23 @@ pub fn requantize_code(class: QuantClass, code: u32) -> f64
     class.c * (fraction_of(code, class.bits_per_sample) + class.d)
 }
 
-// The three samples of a grouped code, the lowest digit first.
-pub fn degroup(nb_steps: u32, combined: u32) -> [u32; 3]
+// The three samples of a grouped code, the lowest digit first, and what the code holds beyond them.
+#[derive(Clone, Copy)]
+pub struct Degrouped {
+    pub digits: [u32; 3],
+    pub excess: u32,
+}
+
+pub fn degroup(nb_steps: u32, combined: u32) -> Degrouped
     requires { 0 < nb_steps }
-    ensures { result ≡ degrouped nb_steps combined }
+    ensures { (result.digits ≡ degrouped nb_steps combined) × (result.excess ≡ excess_of nb_steps combined) }
 {
     let rest = combined / nb_steps;
-    [
-        combined % nb_steps,
-        rest % nb_steps,
-        rest / nb_steps % nb_steps,
-    ]
+    let third = rest / nb_steps;
+    Degrouped {
+        digits: [combined % nb_steps, rest % nb_steps, third % nb_steps],
+        excess: third / nb_steps,
+    }
 }
 
 // The value of an LFE code of nb bits: s'' = (2^nb / (2^nb - 1)) * (s''' + 2^(1-nb)).

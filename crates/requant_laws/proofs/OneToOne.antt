@@ -1,6 +1,6 @@
 -- Values decide codes, in all 64 bits of an f64: one theorem for any of the 17 classes, any LFE allocation and scalefactor, any coefficient byte, any group.
-use Rattle.std.specs.Prelude.{◌≡◌, cond, List, ℕ, zero, suc, ◌+◌, ◌-◌, ◌*◌, ◌/◌, ◌%◌, ◌^◌, ◌≤◌, ◌<◌, T, eqb, get_or, Float}
-use Rattle.std.proofs.Common.{sym, ◌∙◌, le_trans, div-add-mod', mod-eq_of_lt, div-lt_iff_lt-mul, not-suc-le-zero, zero-lt-suc, arith, lit<, lit≤}
+use Rattle.std.specs.Prelude.{◌≡◌, cond, List, ℕ, ◌+◌, ◌-◌, ◌*◌, ◌/◌, ◌^◌, ◌≤◌, ◌<◌, T, eqb, Float}
+use Rattle.std.proofs.Common.{sym, ap₂, ◌∙◌, le_trans, arith, lit<, lit≤}
 use Rattle.std.proofs.Math.Path.{ap}
 use Rattle.std.specs.Float.{nan, inf, fin}
 use Rattle.std.specs.Float.Ieee.{binary64, up, down, mul}
@@ -11,8 +11,9 @@ use Rattle.tables.specs.Scalefactor.{scalefactor_of}
 use Rattle.bitalloc.specs.Classes.{class_index, is_class, class_of, bits_per_sample}
 use Rattle.bitalloc.proofs.Places.{class-index-lt}
 use Rattle.bitalloc.proofs.Rules.{steps-rules}
-use Rattle.requant.specs.Requant.{raw_of, degrouped, lfe_c, lfe_d, lfe_sample_of, coefficient_of}
+use Rattle.requant.specs.Requant.{raw_of, degrouped, excess_of, number_of, lfe_c, lfe_d, lfe_sample_of, coefficient_of}
 use Rattle.requant.proofs.Flip.{in_halves}
+use Rattle.requant.proofs.Excess.{whole, excess-none}
 use Rattle.requant.proofs.AsRaw.{requantized-raw, lfe-raw}
 use Rattle.requant.proofs.Constants.{gap, most, class-apart, lfe-constants, scalefactor-scales}
 
@@ -56,22 +57,11 @@ coefficients-pass = tt
 pub coefficient-one-to-one : (b b' : ℕ) → b < 256 → b' < 256 → coefficient_of b ≡ coefficient_of b' → b ≡ b'
 coefficient-one-to-one = one-to-one coefficient_of byte_of 256 coefficients-pass
 
--- ---- the digits of a group's code
-number : ℕ → List ℕ → ℕ
-number n digits = (get_or digits 2 0 * n + get_or digits 1 0) * n + get_or digits 0 0
+-- ---- a group's code: its digits and its excess
+pub group-one-to-one : (n c c' : ℕ) → degrouped n c ≡ degrouped n c' → excess_of n c ≡ excess_of n c' → c ≡ c'
+group-one-to-one n c c' digits excess =
+    sym (whole n c) ∙ ap₂ (λ (d : List ℕ) (e : ℕ). number_of n d + n ^ 3 * e) digits excess ∙ whole n c'
 
-number-degrouped : (n c : ℕ) → c < n * n * n → number n (degrouped n c) ≡ c
-unfolding number degrouped
-number-degrouped n c h =
-    ap (λ (x : ℕ). (x * n + c / n % n) * n + c % n) (mod-eq_of_lt ((div-lt_iff_lt-mul N).1 ((div-lt_iff_lt-mul N).1 h)))
-    ∙ ap (λ (x : ℕ). x * n + c % n) (div-add-mod' (c / n) n) ∙ div-add-mod' c n
-  where
-    positive : (n : ℕ) → c < n * n * n → 0 < n
-    positive zero h = absurd (not-suc-le-zero h)
-    positive (suc m) h = zero-lt-suc m
-
-    N : 0 < n
-    N = positive n h
-
-pub digits-one-to-one : (n c c' : ℕ) → c < n * n * n → c' < n * n * n → degrouped n c ≡ degrouped n c' → c ≡ c'
-digits-one-to-one n c c' h h' e = sym (number-degrouped n c h) ∙ ap (number n) e ∙ number-degrouped n c' h'
+-- below the cube the digits are enough
+pub digits-one-to-one : (n c c' : ℕ) → c < n ^ 3 → c' < n ^ 3 → degrouped n c ≡ degrouped n c' → c ≡ c'
+digits-one-to-one n c c' h h' e = group-one-to-one n c c' e (excess-none n c h ∙ sym (excess-none n c' h'))

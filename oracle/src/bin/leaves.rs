@@ -1,6 +1,8 @@
 //! Compares the proved leaves, all of their domain and some values beyond it, with the published
-//! Rust in every bit. Ends with status 1 at the first difference.
+//! Rust in every bit. That drops the excess of a group code, which is the oracle's own. Ends with status 1
+//! at the first difference.
 
+use oracle::excess::excess;
 use oracle::leaf::{self, QuantClass, SCALEFACTORS};
 use std::process::ExitCode;
 
@@ -134,7 +136,7 @@ fn group_codes(tally: &mut Tally) -> Compared {
     for class in classes() {
         let (steps, end) = (class.nb_steps, 1 << class.bits_per_codeword);
         for code in (0..end).chain(beyond(end)) {
-            let wanted = (class.grouping && code < end).then(|| packed_digits(&class, code));
+            let wanted = (class.grouping && code < end).then(|| packed_code(&class, code));
             let found = proved::mc_leaf_degroup(steps, code);
             tally.number(&[steps, code], found, wanted)?;
         }
@@ -146,10 +148,11 @@ fn group_codes(tally: &mut Tally) -> Compared {
     Ok(())
 }
 
-/// The three digits of a group code in one number, the first lowest.
-fn packed_digits(class: &QuantClass, code: u32) -> u32 {
+/// The three digits of a group code in one number, the first lowest, and its excess from bit 20 on.
+fn packed_code(class: &QuantClass, code: u32) -> u32 {
     let digits = leaf::degroup(class, code).expect("digits are below the steps");
-    digits[0] + 256 * digits[1] + 65_536 * digits[2]
+    let excess = excess(class, code);
+    digits[0] + 256 * digits[1] + 65_536 * digits[2] + 1_048_576 * excess
 }
 
 /// Step counts that no class has, with some codes.

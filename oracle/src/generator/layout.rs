@@ -173,3 +173,8 @@ pub fn code_width(steps: u32) -> u32 {
 pub fn grouped(steps: u32) -> bool {
     matches!(steps, 3 | 5 | 9)
 }
+
+/// What a group code has beside its three digits.
+pub fn excess(steps: u32, code: u32) -> u32 {
+    code / steps / steps / steps
+}

@@ -6,6 +6,7 @@
 
 pub mod base;
 pub mod damage;
+pub mod group_codes;
 pub mod head;
 pub mod layout;
 pub mod payload;

@@ -63,7 +63,12 @@ fn accepted_lines(out: &mut String, frame: &FrameOutput, lfe: bool) {
         write!(out, "{} ", name(channel)).unwrap();
     }
     let (head, payload) = (span.head_used, span.payload_used);
-    writeln!(out, "- {head} head bits, {payload} payload bits").unwrap();
+    let excess = frame.excesses.codes();
+    writeln!(
+        out,
+        "- {head} head bits, {payload} payload bits, {excess} excess codes"
+    )
+    .unwrap();
     let buffers = Buffers::of(frame);
     if lfe {
         let samples: String = buffers

@@ -43,8 +43,10 @@ fn said(
 ) -> String {
     let mut said = match answer {
         Ok(frame) => format!(
-            "accepted, {} head bits, {} payload bits",
-            frame.span.head_used, frame.span.payload_used
+            "accepted, {} head bits, {} payload bits, {} excess codes",
+            frame.span.head_used,
+            frame.span.payload_used,
+            frame.excesses.codes()
         ),
         Err(refusal) => format!(
             "refusal {}, group {}, code {}; buffers as they were",

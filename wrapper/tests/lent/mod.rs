@@ -3,7 +3,9 @@
 
 #![allow(dead_code)] // A file of tests uses a part of it.
 
-use koftabasin::{Buffers, Frame, LFE, McError, McState, OUTPUT, RAW, Used, decode};
+use koftabasin::{
+    Answer, Buffers, Frame, LFE, McError, McState, OUTPUT, RAW, Used, decode, decode_packed,
+};
 
 /// Owns what is lent. A stereo base at 48,000 Hz with no centre and no surround: 35 head bits, no
 /// payload.
@@ -72,6 +74,14 @@ impl Lent {
     }
 
     pub fn decode(&mut self, state: &mut McState) -> Result<Used, McError> {
+        self.lend(|frame, buffers| decode(state, frame, buffers))
+    }
+
+    pub fn decode_packed(&mut self, state: &mut McState) -> Answer {
+        self.lend(|frame, buffers| decode_packed(state, frame, buffers))
+    }
+
+    fn lend<T>(&mut self, call: impl FnOnce(&Frame, &mut Buffers) -> T) -> T {
         let frame = Frame {
             head: &self.head,
             head_bits: self.head_bits,
@@ -90,16 +100,13 @@ impl Lent {
             nb_steps: &self.nb_steps,
         };
         let [raw, work, output, lfe] = &mut self.written;
-        decode(
-            state,
-            &frame,
-            &mut Buffers {
-                raw,
-                work,
-                output,
-                lfe,
-            },
-        )
+        let mut buffers = Buffers {
+            raw,
+            work,
+            output,
+            lfe,
+        };
+        call(&frame, &mut buffers)
     }
 
     /// No element of the buffers has changed.

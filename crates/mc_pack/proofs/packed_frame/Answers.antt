@@ -1,9 +1,5 @@
 -- `mc_pack::packed_frame` meets its contract.
 use Rattle.mc_state.proofs.PackLaws.{packs-after}
-use Rattle.mc_pack.proofs.packed_frame.Reads as reads
-use Rattle.mc_pack.proofs.packed_frame.Lts as lts
-use Rattle.mc_pack.proofs.pack.Reads as pack-reads
-use Rattle.mc_decode.proofs.frame_by_value.Reads as frame-reads
 use Rattle.mc_pack.proofs.packed_frame.Goals as goal
 
 pub returns : goal.returns

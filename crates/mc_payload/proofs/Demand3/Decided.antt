@@ -1,4 +1,4 @@
--- The record decides the codes of an accepted payload, where each group code is below the cube of its step count.
+-- The record, with the excesses of its group codes, decides the codes of an accepted payload.
 use Rattle.std.specs.Prelude.{◌≡◌, refl, Bool, false, cond, List, ℕ, zero, suc, ◌+◌, ◌*◌, ◌/◌, ◌%◌, ◌^◌, ◌≤◌, ◌<◌, eqb, get_or}
 use Rattle.std.proofs.Common.{sym, ap, ◌∙◌}
 use Rattle.std.proofs.Math.Bool.{true}
@@ -13,9 +13,9 @@ use Rattle.mc_fields.specs.Head.{bits_if, count_at}
 use Rattle.mc_payload.specs.declared.McSettings.{McSettings}
 use Rattle.mc_payload.specs.Places.{own_at, own_of}
 use Rattle.mc_payload.specs.Payload.{Codes}
-use Rattle.mc_payload.specs.Record.{code_of, raw_at, lfe_at}
+use Rattle.mc_payload.specs.Record.{code_of, excess_at, raw_at, lfe_at}
 use Rattle.mc_payload.specs.Unpack.{allocations_fit}
-use Rattle.mc_payload.specs.Demand3.{GroupsBelow, SameFloat, SameRecord}
+use Rattle.mc_payload.specs.Demand3.{SameFloat, SameRecord, SameWhole}
 use Rattle.mc_payload.proofs.Demand3.Accepted.{steps-at, own-at, own-class}
 use Rattle.mc_payload.proofs.Demand3.Widths.{Fitting, predictor_width, sample_width, granule_width}
 use Rattle.mc_payload.proofs.Demand3.Values.{single-one, group-one, lfe-one, coefficient-one}
@@ -43,8 +43,11 @@ raw-at s c m gr sb k t e h some =
 -- ---- two accepted payloads under the same settings, whose records are equal
 
 module _ (s : McSettings) (c c' : Codes) (alloc : allocations_fit s ≡ true) (low : s.lfe_allocation ≤ 15) (f : Fitting s c) (f' : Fitting s c')
-    (below : GroupsBelow s c) (below' : GroupsBelow s c') (r : SameRecord s c c')
+    (same : SameWhole s c c')
   where
+    abbrev r : SameRecord s c c'
+    r = same.entries
+
     abbrev predsi : List ℕ
     predsi = s.status.mc_prediction
 
@@ -112,7 +115,8 @@ module _ (s : McSettings) (c c' : Codes) (alloc : allocations_fit s ≡ true) (l
       class = own-class s m sb alloc hm hs some
 
       same-group : grouped n ≡ true → code_of c gr m sb 0 ≡ code_of c' gr m sb 0
-      same-group g = group-one n class _ _ (below gr m sb hg hm hs g) (below' gr m sb hg hm hs g) (same-raw true g)
+      unfolding excess_at
+      same-group g = group-one n class _ _ (same-raw true g) (rw g at (same.excess gr m sb hg hm hs g))
 
       same_code : (k : ℕ) → k < 3 → 0 < sample_width n k → code_of c gr m sb k < 2 ^ sample_width n k → code_of c' gr m sb k < 2 ^ sample_width n k
           → code_of c gr m sb k ≡ code_of c' gr m sb k

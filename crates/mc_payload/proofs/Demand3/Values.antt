@@ -1,8 +1,7 @@
 -- Values decide the codes of a place: raw values of samples or of a group, LFE samples, and coefficients.
-use Rattle.std.specs.Prelude.{◌≡◌, true, false, ℕ, zero, suc, ◌+◌, ◌*◌, ◌/◌, ◌^◌, ◌≤◌, ◌<◌, T, Float, get_or}
+use Rattle.std.specs.Prelude.{◌≡◌, true, false, ℕ, zero, suc, ◌+◌, ◌/◌, ◌^◌, ◌≤◌, ◌<◌, T, Float, get_or}
 use Rattle.std.proofs.Math.Path.{refl}
 use Rattle.std.proofs.Common.{sym, ap, subst, ◌∙◌, mod-lt, arith, ext_get_or}
-use Rattle.std.proofs.Math.Nat.{pow-suc, pow-zero}
 use Rattle.std.specs.Float.{binary64}
 use Rattle.std.specs.Float.Ieee.{add, sub, fits, of_bits}
 use Rattle.std.specs.Float.Ieee.Bits.{of_bits-to_bits}
@@ -11,8 +10,8 @@ use Rattle.tables.specs.Scalefactor.{scalefactor_of}
 use Rattle.bitalloc.specs.Classes.{is_class, class_of, c_of, d_of, grouped, bits_per_sample, bits_per_codeword}
 use Rattle.bitalloc.proofs.Places.{class-steps}
 use Rattle.bitalloc.proofs.Rules.{steps-rules}
-use Rattle.requant.specs.Requant.{whole, fraction, requantized, raw_of, degrouped, lfe_of, lfe_sample_of, coefficient_of}
-use Rattle.requant_laws.proofs.OneToOne.{raw-one-to-one, lfe-one-to-one, coefficient-one-to-one, digits-one-to-one}
+use Rattle.requant.specs.Requant.{whole, fraction, requantized, raw_of, degrouped, excess_of, lfe_of, lfe_sample_of, coefficient_of}
+use Rattle.requant_laws.proofs.OneToOne.{raw-one-to-one, lfe-one-to-one, coefficient-one-to-one, group-one-to-one}
 use Rattle.mc_payload.specs.Demand3.{SameFloat}
 
 -- floats that the format holds
@@ -55,14 +54,13 @@ module _ (n : ℕ) (class : is_class n ≡ true) where
       go g (suc (suc zero)) h = mod-lt (g / n / n) some
       go g (suc (suc (suc k))) h = absurd (omega arith)
 
-  -- a group code, by the raw values of its three digits
-  pub group-one : (g g' : ℕ) → g < n ^ 3 → g' < n ^ 3
-      → ((k : ℕ) → k < 3 → SameFloat (raw_of n (get_or (degrouped n g) k 0)) (raw_of n (get_or (degrouped n g') k 0))) → g ≡ g'
+  -- a group code, by the raw values of its three digits and its excess
+  pub group-one : (g g' : ℕ)
+      → ((k : ℕ) → k < 3 → SameFloat (raw_of n (get_or (degrouped n g) k 0)) (raw_of n (get_or (degrouped n g') k 0)))
+      → excess_of n g ≡ excess_of n g' → g ≡ g'
   unfolding degrouped
-  group-one g g' h h' e =
-      let cube : n ^ 3 ≡ n * n * n = rw (pow-suc n 2, pow-suc n 1, pow-suc n 0, pow-zero n) (omega arith) in
-      digits-one-to-one n g g' (rw cube at h) (rw cube at h')
-      (ext_get_or 0 (degrouped n g) (degrouped n g') refl (λ k l. raw-one _ _ (digit-below g k l) (digit-below g' k l) (e k l)))
+  group-one g g' e x =
+      group-one-to-one n g g' (ext_get_or 0 (degrouped n g) (degrouped n g') refl (λ k l. raw-one _ _ (digit-below g k l) (digit-below g' k l) (e k l))) x
 
 -- ---- LFE samples and coefficients
 

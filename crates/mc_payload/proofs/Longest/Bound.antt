@@ -22,7 +22,7 @@ and-false : (t : Bool) → (t && false) ≡ false
 and-false true = refl
 and-false false = refl
 
-carried_none : (s : McSettings) (m sb : ℕ) → 30 ≤ sb → carried s m sb ≡ false
+pub carried_none : (s : McSettings) (m sb : ℕ) → 30 ≤ sb → carried s m sb ≡ false
 unfolding carried
 carried_none s m sb h = rw (le-ltb sb (msblimit s.rate) (low (eqb s.rate 48000))) (and-false (ltb m (config s).nmch))
   where

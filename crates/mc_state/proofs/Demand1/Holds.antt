@@ -1,6 +1,6 @@
 -- Demand 1 holds.
 use Rattle.std.proofs.Math.Path.{◌≡◌, refl}
-use Rattle.std.proofs.Common.{ap, inl, ⊎_elim, arith}
+use Rattle.std.proofs.Common.{sym, ap, inl, ⊎_elim, arith}
 use Rattle.std.specs.Prelude.{Bool, cond, List, ℕ}
 use Rattle.std.proofs.Math.Bool.{true, false}
 use Rattle.std.proofs.Math.Logic.{inr}
@@ -14,6 +14,7 @@ use Rattle.mc_fields.proofs.StatusYields.{Forbids}
 use Rattle.mc_fields.specs.Lent.{head_fits, head_of}
 use Rattle.mc_payload.specs.declared.McSettings.{McSettings}
 use Rattle.mc_payload.specs.Payload.{Codes}
+use Rattle.mc_payload.specs.Record.{excesses_of, excess_codes}
 use Rattle.mc_payload.proofs.PayloadYields.{payload-yields}
 use Rattle.mc_payload.specs.Unpack.{allocations_fit, payload_of}
 use Rattle.mc_unpack.specs.Settled.{settled_of}
@@ -33,7 +34,7 @@ early-plain : (n : ℕ) → among frame_numbers n ≡ true → (n ≡ 5 → ⊥)
 early-plain n a d x e =
     rw e
     (record {
-      numbered = record { number = a; bare = inr refl };
+      numbered = record { number = a; group = omega arith; bare = inr refl };
       before = λ q. d (ap (λ (r : Refusal). r.number) q);
     })
 
@@ -45,7 +46,7 @@ forbids-early : (x : Refusal) → Forbids x → Early x
 unfolding among
 forbids-early x f =
     record {
-      numbered = record { number = rw f.number; bare = inl f.number };
+      numbered = record { number = rw f.number; group = f.group; bare = inl f.number };
       before = λ q. let n : x.number ≡ 5 = ap (λ (r : Refusal). r.number) q in omega (arith, f.number);
     }
 
@@ -142,7 +143,7 @@ module _ (l : Lent) (w : Buffers) (st : McDecodeState) where
   left-by (changed s) h x e =
       let q : x ≡ plain 5 = cc in
       record {
-        numbered = rw q (record { number = refl; bare = inr refl });
+        numbered = rw q (record { number = refl; group = omega arith; bare = inr refl });
         buffers = refl;
         state = λ n. absurd (n q);
         stored =
@@ -160,17 +161,21 @@ module _ (l : Lent) (w : Buffers) (st : McDecodeState) where
       }
   left-by (frame s c head_used used) h x e = let z : ◌≡◌ {A = ℕ} 0 1 = cc in absurd (omega arith)
 
-  written-by : (v : Verdict) → Way l st v → (head_used used : ℕ) → answer_of v ≡ accepted head_used used → Written l st head_used used (after_verdict v l.desk l.base w st)
+  written-by : (v : Verdict) → Way l st v → (head_used excess used : ℕ) → answer_of v ≡ accepted (head_used, excess) used
+      → Written l st head_used excess used (after_verdict v l.desk l.base w st)
   unfolding Way answer_of buffers_of state_of
-  written-by (refusal r) h head_used used e = let z : ◌≡◌ {A = ℕ} 0 1 = cc in absurd (omega arith)
-  written-by (changed s) h head_used used e = let z : ◌≡◌ {A = ℕ} 0 1 = cc in absurd (omega arith)
-  written-by (frame s c n u) h head_used used e =
-      let en : n ≡ head_used = cc in
+  written-by (refusal r) h head_used excess used e = let z : ◌≡◌ {A = ℕ} 0 1 = cc in absurd (omega arith)
+  written-by (changed s) h head_used excess used e = let z : ◌≡◌ {A = ℕ} 0 1 = cc in absurd (omega arith)
+  written-by (frame s c n u) h head_used excess used e =
+      let told : ◌≡◌ {A = ℕ × ℕ} (n, excess_codes (excesses_of s c)) (head_used, excess) = cc in
+      let en : n ≡ head_used = ap (λ p. p.0) told in
+      let ex : excess ≡ excess_codes (excesses_of s c) = ap (λ p. p.1) (sym told) in
       let eu : u ≡ used = cc in
       record {
         settings = s;
         codes = c;
         found = rw (en, eu) at h.0;
+        excesses = ex;
         allowed = h.1.0;
         desk = h.1.1;
         buffers = refl;
@@ -186,4 +191,4 @@ refused-leaves l w st x e = left-by l w st (verdict_of l w st) (way l st w) x e
 
 pub accepted-writes : AcceptedWrites
 unfolding frame_of
-accepted-writes l w st head_used used e = written-by l w st (verdict_of l w st) (way l st w) head_used used e
+accepted-writes l w st head_used excess used e = written-by l w st (verdict_of l w st) (way l st w) head_used excess used e

@@ -25,7 +25,7 @@ use Rattle.mc_state.specs.Held.{layout_for, held_fits, same_layout, follows, lay
 use Rattle.mc_state.proofs.HeldLaws.{layout-for, layout_is, held-some}
 use Rattle.mc_state.specs.Desk.{desk_fits}
 use Rattle.mc_state.specs.Carry.{carried_over, converted, converted_over}
-use Rattle.mc_state.specs.Frame.{Lent, Buffers, Verdict, refusal, changed, frame, After, settings_for, lent_by, verdict_unpacked, verdict_head, verdict_of, state_of, frame_of, fresh}
+use Rattle.mc_state.specs.Frame.{Lent, Buffers, Answer, Verdict, refusal, changed, frame, After, settings_for, lent_by, verdict_unpacked, verdict_head, verdict_of, state_of, frame_of, fresh}
 use Rattle.mc_state.specs.Demand1.{Left, Written}
 use Rattle.mc_state.proofs.Demand1.Holds.{refused-leaves, accepted-writes}
 use Rattle.mc_state.specs.Reel.{Call, calling, result_of, results, state_after, state_by, SameReel, NeverTheTally, at_desk, SameButDesk, OtherDesks, NeverTheDesk, Holds, FreshHolds, call, read, carried, reel, ChangedInMidReel, CarriedFresh, ConvertedGoesOn, UnderFirst, Kept, FirstKeeps}
@@ -123,9 +123,9 @@ record ReadUnder (l : Lent) (s : McSettings) : Type 0 where
   surround : s.header.surround ≤ 3
   reading : s.reading ≡ l.reading
 
-read_under : (c : Call) (st : McDecodeState) (head_used used : ℕ) (w : Written c.lent st head_used used (calling c st)) → ReadUnder c.lent w.settings
+read_under : (c : Call) (st : McDecodeState) (head_used excess used : ℕ) (w : Written c.lent st head_used excess used (calling c st)) → ReadUnder c.lent w.settings
 unfolding settings_of
-read_under c st head_used used w =
+read_under c st head_used excess used w =
     let l = c.lent in
     let f = w.found in
     let accepted-head = lent-accepted l.reading l.head l.head_bits l.base_channels (f.header, (f.word, f.status)) head_used f.head in
@@ -169,11 +169,11 @@ module _ (s : McSettings) where
 pub held-fits : (c : Call) (st : McDecodeState) → Holds st → Holds (calling c st).state
 held-fits c st e = go (calling c st).answer refl
   where
-    go : (o : Outcome ℕ) → (calling c st).answer ≡ o → Holds (calling c st).state
+    go : (o : Answer) → (calling c st).answer ≡ o → Holds (calling c st).state
     go (refused x) q = let k = refused-stays c st x (refused-leaves c.lent c.buffers st x q) in rw (k.count, k.layout) e
-    go (accepted head_used used) q =
-        let w = accepted-writes c.lent c.buffers st head_used used q in
-        let u = read_under c st head_used used w in
+    go (accepted (head_used, excess) used) q =
+        let w = accepted-writes c.lent c.buffers st head_used excess used q in
+        let u = read_under c st head_used excess used w in
         rw (w.count, w.layout) (after-fits w.settings st.layout_len st.layout u.surround e w.allowed)
 
 -- ---- one change
@@ -217,11 +217,11 @@ accepted-keeps s count layout e f z = let g = rw e at f in sym (eqb-true count (
 call-keeps : (c : Call) (st : McDecodeState) → c.lent.reading ≡ 1 → Kept st (calling c st).state
 call-keeps c st e = go (calling c st).answer refl
   where
-    go : (o : Outcome ℕ) → (calling c st).answer ≡ o → Kept st (calling c st).state
+    go : (o : Answer) → (calling c st).answer ≡ o → Kept st (calling c st).state
     go (refused x) q = let k = refused-stays c st x (refused-leaves c.lent c.buffers st x q) in record { layout = k.layout; count = λ z. k.count }
-    go (accepted head_used used) q =
-        let w = accepted-writes c.lent c.buffers st head_used used q in
-        let r : w.settings.reading ≡ 1 = (read_under c st head_used used w).reading ∙ e in
+    go (accepted (head_used, excess) used) q =
+        let w = accepted-writes c.lent c.buffers st head_used excess used q in
+        let r : w.settings.reading ≡ 1 = (read_under c st head_used excess used w).reading ∙ e in
         record {
           layout = w.layout ∙ rw r;
           count = λ z. w.count ∙ accepted-keeps w.settings st.layout_len st.layout r w.allowed z;

@@ -1,5 +1,4 @@
 -- `parts::write_fields` meets its contract. The loop fills the bytes in order.
-use Prim.Native.Nat.{◌-◌}
 use native.Mathlib.Omega.{arith}
 use Rattle.fill.proofs.InOrder.{starts, more, ends-all}
 use Rattle.parts.proofs.PartsLaws.{all-bytes}

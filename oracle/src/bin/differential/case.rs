@@ -1,6 +1,7 @@
 //! A frame as it is lent, and ways to spoil it.
 
 use crate::lent::{LENGTHS, MARGIN};
+use oracle::excess::Excesses;
 use oracle::flat::Flat;
 use oracle::generator::damage;
 use oracle::generator::spoil::{self, Way, all, bits_past, either};
@@ -16,6 +17,8 @@ pub struct Case {
     pub state: State,
     /// A slice by its number in [`SLICES`], and the wrong length that it has.
     pub wrong_length: Option<(usize, usize)>,
+    /// The excesses that the plan wrote, where its strings are lent as it wrote them.
+    pub written: Option<Excesses>,
     /// What was done to the frame.
     pub done: Vec<&'static str>,
 }
@@ -44,6 +47,7 @@ impl Case {
             },
             state: state.clone(),
             wrong_length: None,
+            written: Some(made.plan.excesses()),
             done: vec![],
         }
     }
@@ -131,6 +135,7 @@ const SPOILS: [Way<Case>; 29] = [
 /// Spoils a case in one to three ways.
 pub fn spoil(random: &mut Random, made: &Made, case: &mut Case) {
     case.done = spoil::spoil(random, made, case, |case| &mut case.input, &SPOILS);
+    case.written = None;
     case.input.lfe_allocation = case.input.lfe_allocation.min(255);
 }
 

@@ -1,6 +1,7 @@
 //! The cells that a run counts by: their names, and those that a long run is to reach.
 
 use crate::case::SLICES;
+use oracle::excess::GROUPED;
 use oracle::generator::layout::{Layout, STEPS};
 use oracle::held::{CARRIED, CONVERTED, HELD};
 use oracle::input::{DESKS, READINGS};
@@ -10,8 +11,8 @@ use oracle::trail::CHANGES;
 /// What is counted by, and two numbers of it.
 pub type Cell = (By, u32, u32);
 
-/// What is counted: frames, but for `Carried` and `Converted`, and from `AcceptedUnder` on accepted ones
-/// alone.
+/// What is counted: frames, but for `Carried`, `Converted` and `ExcessCodes`, and from `AcceptedUnder` on
+/// accepted ones alone.
 #[derive(Debug, Clone, Copy, PartialEq, Eq, PartialOrd, Ord)]
 pub enum By {
     Answer,
@@ -57,6 +58,8 @@ pub enum By {
     Code,
     /// Step count, at some transmitted place.
     Class,
+    /// Group codes with an excess: the step count.
+    ExcessCodes,
     LfeAllocation,
     /// 0 off, 1 on without a group, 2 with one.
     Prediction,
@@ -128,6 +131,7 @@ pub fn label((by, first, second): Cell) -> String {
         By::Stored | By::Layout => layout_name(first),
         By::Tc | By::Code => second.to_string(),
         By::Forbidden => format!("code {second} in {first}"),
+        By::ExcessCodes => format!("{first} steps"),
         By::Predictor => format!("{first} with {second}"),
         _ => first.to_string(),
     }
@@ -161,6 +165,7 @@ pub fn wanted() -> Vec<Cell> {
     cells.extend([0, 1, 3, 4, 5, 8].map(|answer| (By::AmendedHead, 1, answer)));
     cells.extend([32_000, 44_100, 48_000].map(|rate| (By::Rate, rate, 0)));
     cells.extend(STEPS.map(|steps| (By::Class, steps, 0)));
+    cells.extend(GROUPED.map(|steps| (By::ExcessCodes, steps, 0)));
     cells.extend((0..24).map(|k| (By::Predictor, k / 4, k % 4)));
     for layout in Layout::all() {
         layout_cells(&layout, &mut cells);

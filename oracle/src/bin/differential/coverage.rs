@@ -3,6 +3,7 @@
 use crate::case::Case;
 use crate::cells::{By, Cell, held_cell, label, title, wanted};
 use oracle::desks::before_what;
+use oracle::excess::{Excesses, GROUPED};
 use oracle::generator::layout::STEPS;
 use oracle::generator::state::Older;
 use oracle::held::{carried, converted, held};
@@ -133,6 +134,7 @@ impl Coverage {
         self.each(By::Tc, layout, &status.tc_allocation);
         self.each(By::Code, layout, &status.dyn_cross_mode);
         self.classes(input);
+        self.excess_codes(&frame.excesses);
         self.add(By::LfeAllocation, input.lfe_allocation, 0);
         let groups = u32::from(status.mc_prediction.contains(&true));
         self.add(
@@ -162,6 +164,13 @@ impl Coverage {
         let steps = input.nb_steps.as_flattened();
         for class in STEPS.iter().filter(|class| steps.contains(class)) {
             self.add(By::Class, *class, 0);
+        }
+    }
+
+    fn excess_codes(&mut self, excesses: &Excesses) {
+        let classes = GROUPED.into_iter().zip(excesses.by_class);
+        for (steps, codes) in classes.filter(|class| class.1 > 0) {
+            *self.cells.entry((By::ExcessCodes, steps, 0)).or_default() += u64::from(codes);
         }
     }
 

@@ -46,6 +46,7 @@ fn case(input: FrameInput) -> Case {
         input,
         state: State::fresh(),
         wrong_length: None,
+        written: None,
         done: vec!["head"],
     }
 }

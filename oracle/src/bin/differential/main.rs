@@ -19,7 +19,8 @@ use work::Work;
 const USAGE: &str = "usage: differential MODE [NUMBER [SEED]]
   frames    sequences of frames, whole and spoiled, with carryings and conversions, until NUMBER frames
             are compared
-  cuts      NUMBER frames, one of the longest and one that reading 1 refuses among them, cut at every bit
+  cuts      NUMBER frames, cut at every bit: one of the longest, one that reading 1 refuses and one with
+            the most excesses among them
   heads     heads of every shape, whole and cut at every bit, until NUMBER heads are compared
   sequence  the piece of that NUMBER of a run of frames
   cut       the piece of that NUMBER of a run of cuts

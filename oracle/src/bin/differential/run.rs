@@ -5,7 +5,9 @@ use crate::case::{Case, SLICES};
 use crate::coverage::Coverage;
 use crate::lent::{Compared, Difference, Lent, float_sum, loan_sum, same_number, same_state};
 use crate::twin::Twin;
-use koftabasin::{McError, McState};
+use koftabasin::{Answer, McError, McState};
+use oracle::FrameOutput;
+use oracle::excess::Excesses;
 use oracle::flat::packed;
 use oracle::generator::Random;
 use oracle::generator::state::Older;
@@ -114,6 +116,9 @@ impl Run {
     pub fn compare(&mut self, case: &Case) -> Compared {
         self.frames += 1;
         let (answer, after) = case.judged();
+        if let (Ok(frame), Some(written)) = (&answer, &case.written) {
+            same_excesses(&frame.excesses, written)?;
+        }
         let (flat, lengths) = case.flat();
         let mut own = None;
         let held = match same_bits(&case.state, &self.state) {
@@ -125,6 +130,9 @@ impl Run {
         let found = self.lent.call(held, &frame, lengths);
         let packed = packed(&answer);
         same_number("answer", found.0, packed)?;
+        if let Ok(frame) = &answer {
+            same_used(found, frame)?;
+        }
         let wanted = answer.as_ref().ok().map(Buffers::of);
         self.lent.compare(wanted.as_ref())?;
         same_state(held, &after)?;
@@ -163,6 +171,28 @@ fn same_answer(found: Option<&McError>, wanted: Option<&Refusal>) -> Compared {
     let found = found.map_or(0, |error| error.number());
     let wanted = wanted.map_or(0, |refusal| refusal.number);
     same_number("answer", found.into(), wanted.into())
+}
+
+/// The crate takes the number of an accepted frame apart into the same three.
+fn same_used(found: Answer, frame: &FrameOutput) -> Compared {
+    let used = found.result().expect("the number is an accepted frame's");
+    let (head, payload) = (frame.span.head_used, frame.span.payload_used);
+    same_number("head bits", used.head_bits.into(), head)?;
+    same_number("payload bits", used.payload_bits.into(), payload)?;
+    let codes = frame.excesses.codes();
+    same_number("excess codes", used.excess_codes.into(), codes.into())
+}
+
+/// The excesses that are read from a payload are those that its plan wrote.
+fn same_excesses(read: &Excesses, written: &Excesses) -> Compared {
+    match read == written {
+        true => Ok(()),
+        false => Err(Difference {
+            field: "excesses, read by the oracle and written by its generator".to_string(),
+            found: read.words(),
+            wanted: written.words(),
+        }),
+    }
 }
 
 fn same_bits(one: &State, other: &State) -> bool {

@@ -127,12 +127,13 @@ fn any_state(random: &mut Random, state: &State) -> State {
 }
 
 /// A frame cut at every bit, then whole; the first is one of the longest, the second one that reading 1
-/// refuses.
+/// refuses, the third one with the most excesses.
 pub fn cut_frame(run: &mut Run, seed: u64, number: u64) -> Result<(), Stopped> {
     let mut random = Random::new(Random::new(seed ^ number.rotate_left(32)).bits64());
     let made = Made::of(match number {
         0 => Plan::longest(),
         1 => barred_under_1(&mut random),
+        2 => Plan::most_excesses(),
         _ => Plan::random_under(random.pick(&READINGS), random.bits64()),
     });
     start(run, &mut random)?;

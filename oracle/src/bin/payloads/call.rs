@@ -7,9 +7,10 @@ use oracle::flat::Flat;
 
 mod proved {
     unsafe extern "C" {
-        /// Reads the head, then unpacks the payload under it into the six buffers. The answer has
-        /// the refusal's number in bits 0 to 7; used payload bits or the group in bits 8 to 31; the
-        /// LFE's scalefactor index or the code in bits 32 to 63.
+        /// Reads the head, then unpacks the payload under it into the seven buffers. The answer has
+        /// the refusal's number in bits 0 to 7. Accepted: used payload bits in bits 8 to 31, the
+        /// LFE's scalefactor index in bits 32 to 39, the number of group codes with an excess in bits
+        /// 40 to 63. Refused: the group in bits 8 to 31, the code in bits 32 to 63.
         pub fn mc_part_unpack(
             head: *const u8,
             head_len: usize,
@@ -33,6 +34,8 @@ mod proved {
             coefs_len: usize,
             scalefactors: *mut u8,
             scalefactors_len: usize,
+            excesses: *mut u16,
+            excesses_len: usize,
             raw: *mut f64,
             raw_len: usize,
             lfe: *mut f64,
@@ -41,11 +44,12 @@ mod proved {
     }
 }
 
-/// The buffers, those of bytes first, and their lengths.
-pub const BUFFERS: [(&str, usize); 6] = [
+/// The buffers, those of bytes first, then that of excesses, and their lengths.
+pub const BUFFERS: [(&str, usize); 7] = [
     ("scfsi", 96),
     ("delays", 48),
     ("scalefactors", 288),
+    ("excesses", 1152),
     ("coefficients", 144),
     ("raw", 3456),
     ("lfe", 12),
@@ -59,14 +63,20 @@ fn byte(at: usize) -> u8 {
     0x80 | at as u8
 }
 
+/// What lies in the buffer of excesses before a call: no excess.
+fn excess(at: usize) -> u16 {
+    0x8000 | at as u16
+}
+
 /// What lies in a buffer of floats before a call.
 fn float(at: usize) -> f64 {
     f64::from_bits(0x4321_0000_0000_0000 + at as u64)
 }
 
-/// The six buffers, each with its margins.
+/// The seven buffers, each with its margins.
 pub struct Buffers {
     bytes: [Vec<u8>; 3],
+    excesses: Vec<u16>,
     floats: [Vec<f64>; 3],
 }
 
@@ -75,18 +85,20 @@ impl Buffers {
         let room = |k: usize| 0..BUFFERS[k].1 + 3 * MARGIN;
         Buffers {
             bytes: [0, 1, 2].map(|k| room(k).map(byte).collect()),
-            floats: [3, 4, 5].map(|k| room(k).map(float).collect()),
+            excesses: room(3).map(excess).collect(),
+            floats: [4, 5, 6].map(|k| room(k).map(float).collect()),
         }
     }
 
     /// Calls the library, with buffers of these lengths, at most a margin above the right ones.
-    pub fn call(&mut self, input: &FrameInput, flat: &Flat, lengths: [usize; 6]) -> u64 {
+    pub fn call(&mut self, input: &FrameInput, flat: &Flat, lengths: [usize; 7]) -> u64 {
         let start = |k: usize| MARGIN..MARGIN + lengths[k];
         let [scfsi, delays, scalefactors] = &mut self.bytes;
         let [coefs, raw, lfe] = &mut self.floats;
         let (scfsi, delays) = (&mut scfsi[start(0)], &mut delays[start(1)]);
         let scalefactors = &mut scalefactors[start(2)];
-        let (coefs, raw, lfe) = (&mut coefs[start(3)], &mut raw[start(4)], &mut lfe[start(5)]);
+        let excesses = &mut self.excesses[start(3)];
+        let (coefs, raw, lfe) = (&mut coefs[start(4)], &mut raw[start(5)], &mut lfe[start(6)]);
         // SAFETY: each pointer comes with the length of its slice, and the function takes any.
         unsafe {
             proved::mc_part_unpack(
@@ -112,6 +124,8 @@ impl Buffers {
                 coefs.len(),
                 scalefactors.as_mut_ptr(),
                 scalefactors.len(),
+                excesses.as_mut_ptr(),
+                excesses.len(),
                 raw.as_mut_ptr(),
                 raw.len(),
                 lfe.as_mut_ptr(),
@@ -127,9 +141,11 @@ impl Buffers {
             let values = wanted.map(|record| record.bytes[k].as_slice());
             same(BUFFERS[k].0, buffer, values, byte, u64::from)?;
         }
+        let values = wanted.map(|record| record.excesses.as_slice());
+        same(BUFFERS[3].0, &mut self.excesses, values, excess, u64::from)?;
         for (k, buffer) in self.floats.iter_mut().enumerate() {
             let values = wanted.map(|record| record.floats[k].as_slice());
-            same(BUFFERS[3 + k].0, buffer, values, float, f64::to_bits)?;
+            same(BUFFERS[4 + k].0, buffer, values, float, f64::to_bits)?;
         }
         Ok(())
     }

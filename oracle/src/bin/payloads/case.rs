@@ -2,6 +2,7 @@
 
 use crate::call::{BUFFERS, MARGIN};
 use oracle::FrameInput;
+use oracle::excess::Excesses;
 use oracle::flat::Flat;
 use oracle::generator::damage::{WRONG_READINGS, unknown_steps};
 use oracle::generator::spoil::{self, Way, all, bits_past, either};
@@ -13,6 +14,8 @@ pub struct Case {
     pub input: FrameInput,
     /// A slice by its number in [`slice_name`], and the wrong length that it has.
     pub wrong_length: Option<(usize, usize)>,
+    /// The excesses that the plan wrote, where its strings are lent as it wrote them.
+    pub written: Option<Excesses>,
     /// What was done to the payload.
     pub done: Vec<&'static str>,
 }
@@ -36,6 +39,7 @@ impl Case {
                 ..made.input()
             },
             wrong_length: None,
+            written: Some(made.plan.excesses()),
             done: vec![],
         };
         case.silence();
@@ -50,12 +54,12 @@ impl Case {
     }
 
     /// The lists of step counts to be lent, and the lengths of the buffers.
-    pub fn flat(&self) -> (Flat, [usize; 6]) {
+    pub fn flat(&self) -> (Flat, [usize; 7]) {
         let mut flat = Flat::of(&self.input);
         let mut lengths = BUFFERS.map(|(_, length)| length);
         match self.wrong_length {
-            Some((6, length)) => flat.nb_steps.resize(length, 0),
-            Some((7, length)) => flat.base_nb_steps.resize(length, 0),
+            Some((7, length)) => flat.nb_steps.resize(length, 0),
+            Some((8, length)) => flat.base_nb_steps.resize(length, 0),
             Some((buffer, length)) => lengths[buffer] = length,
             None => {}
         }
@@ -66,8 +70,8 @@ impl Case {
     fn wrong_length(&mut self, random: &mut Random) {
         let slice = random.below(SLICES as u32) as usize;
         let right = match slice {
-            6 => 96,
-            7 => Flat::of(&self.input).base_nb_steps.len(),
+            7 => 96,
+            8 => Flat::of(&self.input).base_nb_steps.len(),
             _ => BUFFERS[slice].1,
         };
         self.wrong_length = Some((slice, spoil::wrong_length(random, right, MARGIN)));
@@ -109,6 +113,7 @@ const SPOILS: [Way<Case>; 18] = [
 /// Spoils a case in one to three ways.
 pub fn spoil(random: &mut Random, made: &Made, case: &mut Case) {
     case.done = spoil::spoil(random, made, case, |case| &mut case.input, &SPOILS);
+    case.written = None;
 }
 
 /// A string that is too long, one of the most bytes, or a bit count past its bytes.

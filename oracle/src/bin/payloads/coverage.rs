@@ -2,6 +2,7 @@
 
 use crate::case::{Case, SLICES, slice_name};
 use oracle::FrameOutput;
+use oracle::excess::{Excesses, GROUPED};
 use oracle::generator::layout::{Layout, STEPS};
 use oracle::input::READINGS;
 use oracle::phantom::{COUNTED, counted, on_amended_head};
@@ -9,7 +10,7 @@ use oracle::scope::{Refusal, State};
 use std::collections::BTreeMap;
 
 /// What payloads are counted by. All but the first six count accepted ones.
-const KINDS: [&str; 16] = [
+const KINDS: [&str; 17] = [
     "answer",
     "done",
     "wrong length",
@@ -21,6 +22,7 @@ const KINDS: [&str; 16] = [
     "base channels",
     "rate",
     "class",
+    "excess codes",
     "LFE allocation",
     "scfsi",
     "delay",
@@ -28,7 +30,7 @@ const KINDS: [&str; 16] = [
     "channel copied",
 ];
 
-/// Payloads by kind and cell.
+/// Payloads by kind and cell; under excess codes not payloads but group codes with an excess.
 #[derive(Default)]
 pub struct Coverage(BTreeMap<(&'static str, String), u64>);
 
@@ -73,6 +75,7 @@ impl Coverage {
         for class in STEPS.iter().filter(|class| transmitted.contains(class)) {
             self.add("class", number(*class));
         }
+        self.excess_codes(&frame.excesses);
         let mut held = [false; 4];
         let mut copied = false;
         for (channel, subband) in (0..96).map(|k| (k / 32, k % 32)) {
@@ -87,6 +90,14 @@ impl Coverage {
         }
         self.add("channel copied", copied);
         self.predictors(frame);
+    }
+
+    fn excess_codes(&mut self, excesses: &Excesses) {
+        let classes = GROUPED.into_iter().zip(excesses.by_class);
+        for (steps, codes) in classes.filter(|class| class.1 > 0) {
+            let cell = ("excess codes", steps_name(steps));
+            *self.0.entry(cell).or_default() += u64::from(codes);
+        }
     }
 
     fn predictors(&mut self, frame: &FrameOutput) {
@@ -136,6 +147,10 @@ fn number(n: u32) -> String {
     format!("{n:5}")
 }
 
+fn steps_name(steps: u32) -> String {
+    format!("{steps} steps")
+}
+
 fn answer_name(answer: &Result<FrameOutput, Refusal>) -> String {
     match answer {
         Ok(_) => "accepted".to_string(),
@@ -165,7 +180,7 @@ fn wanted() -> Vec<(&'static str, String)> {
     let layouts = Layout::all()
         .map(|layout| layout_name(layout.front, layout.surround, layout.second_stereo));
     let words = |words: &[&str]| words.iter().map(|word| word.to_string()).collect();
-    let kinds: [(&'static str, Vec<String>); 17] = [
+    let kinds: [(&'static str, Vec<String>); 18] = [
         ("answer", words(&["accepted"])),
         ("answer", [1, 2, 3, 4, 6, 8, 13].map(refusal_name).to_vec()),
         (
@@ -181,6 +196,7 @@ fn wanted() -> Vec<(&'static str, String)> {
         ("base channels", numbers(1..3)),
         ("rate", [32_000, 44_100, 48_000].map(number).to_vec()),
         ("class", STEPS.map(number).to_vec()),
+        ("excess codes", GROUPED.map(steps_name).to_vec()),
         ("LFE allocation", (0..16).map(number).collect()),
         ("scfsi", numbers(0..4)),
         ("delay", numbers(0..8)),

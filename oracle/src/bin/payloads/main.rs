@@ -11,6 +11,7 @@ mod timing;
 use call::Buffers;
 use case::{Case, spoil};
 use coverage::Coverage;
+use oracle::excess::Excesses;
 use oracle::generator::damage::{Part, cut};
 use oracle::generator::{Made, Plan, Random};
 use oracle::input::READINGS;
@@ -43,6 +44,10 @@ impl Run {
             Some(_) => Err(Refusal::plain(6)),
             None => judged(&case.input),
         };
+        if let (Ok(frame), Some(written)) = (&answer, &case.written) {
+            same_excesses(&frame.excesses, written)
+                .map_err(|difference| format!("{}\n{difference}", words(case)))?;
+        }
         let (flat, lengths) = case.flat();
         let buffers = self.buffers.get_or_insert_with(Buffers::new);
         let (found, wanted) = (buffers.call(&case.input, &flat, lengths), packed(&answer));
@@ -52,7 +57,7 @@ impl Run {
                 "{words}\nanswer: found {found:#x}, wanted {wanted:#x}"
             ));
         }
-        let record = answer.as_ref().ok().map(|frame| Record::of(&frame.payload));
+        let record = answer.as_ref().ok().map(Record::of);
         buffers
             .compare(record.as_ref())
             .map_err(|difference| format!("{}\n{difference}", words(case)))?;
@@ -140,6 +145,29 @@ impl Run {
             payload - 1
         ))
     }
+
+    /// An excess in every granule of every place.
+    fn most_excesses(&mut self, seed: u64) -> Result<String, String> {
+        let made = Made::of(Plan::most_excesses());
+        let codes = made.plan.excesses().codes();
+        if codes != 1080 {
+            return Err(format!("not the most excesses: {codes}"));
+        }
+        self.whole(&made, &mut Random::new(seed))?;
+        Ok(format!("{codes} excess codes: accepted"))
+    }
+}
+
+/// The excesses that are read from a payload are those that its plan wrote.
+fn same_excesses(read: &Excesses, written: &Excesses) -> Result<(), String> {
+    match read == written {
+        true => Ok(()),
+        false => Err(format!(
+            "excesses: read by the oracle {}\nwritten by its generator {}",
+            read.words(),
+            written.words()
+        )),
+    }
 }
 
 /// Whether reading 2 stops the payload of a plan at its head, of which the header is whole.
@@ -178,7 +206,8 @@ fn argument(place: usize, default: u64) -> u64 {
     word.and_then(|word| word.parse().ok()).unwrap_or(default)
 }
 
-/// Payloads until so many are compared, then the longest; what was reached is printed.
+/// Payloads until so many are compared, then the longest and that with the most excesses; what was reached
+/// is printed.
 fn compare_all(run: &mut Run, number: u64, seed: u64) -> Result<(), String> {
     // Consecutive seeds go through all shapes.
     let first = seed << 32;
@@ -196,6 +225,7 @@ fn compare_all(run: &mut Run, number: u64, seed: u64) -> Result<(), String> {
         return Err(format!("not reached: {}", missing.join(", ")));
     }
     println!("{}", run.longest(seed)?);
+    println!("{}", run.most_excesses(seed)?);
     Ok(())
 }
 

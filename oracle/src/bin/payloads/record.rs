@@ -1,21 +1,25 @@
 //! The published Rust's side of a payload: its record in flat tables, and the answer in one number.
 
 use oracle::audio_data::Scfsi;
+use oracle::flat;
 use oracle::scope::{Refusal, State, judge};
-use oracle::{FrameInput, FrameOutput, PayloadOutput};
+use oracle::{FrameInput, FrameOutput};
 
 /// The record in the shapes of the call's buffers.
 pub struct Record {
     /// Scfsi codes by subband and channel; delays by group and predictor; scalefactor indices by
     /// subband, channel and part.
     pub bytes: [Vec<u8>; 3],
+    /// By subband, channel and granule; not the published Rust's.
+    pub excesses: Vec<u16>,
     /// Coefficients by group and predictor; raw values by channel, slot and subband; LFE values.
     pub floats: [Vec<f64>; 3],
 }
 
 impl Record {
     /// Places without a step count have no field, and the call's tables hold 0 for them.
-    pub fn of(payload: &PayloadOutput) -> Record {
+    pub fn of(frame: &FrameOutput) -> Record {
+        let payload = &frame.payload;
         let places = (0..96).map(|k| (k % 3, k / 3));
         let (mut scfsi, mut scalefactors) = (vec![0; 96], vec![0; 288]);
         for (place, (channel, subband)) in places.enumerate() {
@@ -36,6 +40,7 @@ impl Record {
                 delays.iter().map(|delay| *delay as u8).collect(),
                 scalefactors,
             ],
+            excesses: frame.excesses.table.clone(),
             floats: [coefs.to_vec(), raw, payload.lfe_samples.clone()],
         }
     }
@@ -63,13 +68,12 @@ pub fn judged(input: &FrameInput) -> Result<FrameOutput, Refusal> {
 
 /// The answer as the call packs it.
 pub fn packed(answer: &Result<FrameOutput, Refusal>) -> u64 {
-    let (number, low, high) = match answer {
-        Ok(frame) => (0, frame.payload.used, frame.payload.lf_scalefactor as u64),
-        Err(refusal) => (
-            refusal.number,
-            u64::from(refusal.group),
-            u64::from(refusal.code),
-        ),
-    };
-    u64::from(number) | low << 8 | high << 32
+    match answer {
+        Ok(frame) => {
+            let payload = &frame.payload;
+            let index = payload.lf_scalefactor as u64;
+            payload.used << 8 | index << 32 | u64::from(frame.excesses.codes()) << 40
+        }
+        Err(_) => flat::packed(answer),
+    }
 }

@@ -4,4 +4,4 @@ use Rattle.boundary.proofs.frames.scalefactor.Goals as goal
 
 pub returns : goal.returns
 unfolding written
-returns c = rw (c.new-loan.ensures, c.plain_head.ensures, c.first_steps-steps.ensures, c.payload_from-payload.ensures, c.bytes.ensures, c.field-start.ensures, c.field-3.ensures, c.field-2.ensures, c.field.ensures, c.new.ensures)
+returns c = rw (c.one_place.ensures, c.field-start.ensures, c.field-3.ensures, c.field-2.ensures, c.field.ensures, c.new.ensures)

@@ -1,5 +1,4 @@
 -- `boundary_run::loan::ramp` meets its contract. The loop fills the list in order.
-use Prim.Native.Nat.{◌-◌}
 use mathlib.Core.Path.{refl}
 use native.Mathlib.Omega.{arith}
 use borrow.Author.Rules.{rules}

@@ -1,5 +1,4 @@
 -- `boundary_run::string::byte` meets its contract: at k the value is that of the first k places.
-use Prim.Native.Nat.{◌-◌}
 use mathlib.Core.Path.{◌≡◌, refl, ap, ◌∙◌}
 use native.Mathlib.Omega.{arith}
 use Rattle.boundary_run.specs.String.{byte_of}

@@ -1,5 +1,4 @@
 -- `boundary_run::string::bytes` meets its contract. The loop fills the list in order.
-use Prim.Native.Nat.{◌-◌}
 use native.Mathlib.Omega.{arith}
 use borrow.Author.Rules.{rules}
 use Rattle.fill.proofs.InOrder.{starts, more, ends-all}

@@ -45,8 +45,8 @@ returns-then-not-layout_follows c =
     let f = c.layout_follows in
     after-changed st _ _ _ _ k.result _ _ r.result.codes r.ensures.0 _ k.ensures z _ n.ensures.0 _ n.ensures.1 _ h _ f.ensures (ap not c.if-not-layout_follows.true)
 
-pub write_samples-requires : goal.write_samples-requires
-write_samples-requires c =
+pub write_samples-excess_codes-requires : goal.write_samples-excess_codes-requires
+write_samples-excess_codes-requires c =
     let pre = c.requires in
     let k = c.settings-s in
     let r = c.read_mc_payload-p in
@@ -64,7 +64,7 @@ finish_payload-requires c =
     let k = c.settings-s in
     let r = c.read_mc_payload-p in
     let z = c.if-err-ne0.false in
-    let v = c.write_samples in record { recorded = (v.ensures.0, r.ensures.1, writable k.result _ _ r.result.codes r.ensures.0 z, delays-small k.result _ _ r.result.codes r.ensures.0 z); base_fits = (base-fits k.result _ k.ensures _ _ pre.long, pre.long.work, pre.long.output) }
+    let v = c.write_samples-excess_codes in record { recorded = (v.ensures.0, r.ensures.1, writable k.result _ _ r.result.codes r.ensures.0 z, delays-small k.result _ _ r.result.codes r.ensures.0 z); base_fits = (base-fits k.result _ k.ensures _ _ pre.long, pre.long.work, pre.long.output) }
 
 pub tallied-requires : goal.tallied-requires
 tallied-requires c = c.requires.low.2
@@ -78,7 +78,7 @@ returns c =
     let n = c.frame_layout-own in
     let h = history-same k.result _ _ c.history-next.ensures in
     let f = c.layout_follows in
-    let v = c.write_samples in
+    let v = c.write_samples-excess_codes in
     let o = c.finish_payload in
     let w = written_is k.result (codes_of r.result.codes) _ _ _ _ _ _ v.ensures.0 o.ensures.0 o.ensures.1 v.ensures.1 in
-    after-accepted st _ _ _ _ k.result _ _ r.result.codes r.ensures.0 _ k.ensures z _ n.ensures.0 _ n.ensures.1 _ h _ f.ensures (ap not c.if-not-layout_follows.false) _ c.layout_after.ensures _ c.tallied.ensures _ w
+    after-accepted st _ _ _ _ k.result _ _ r.result.codes r.ensures.0 _ k.ensures z _ n.ensures.0 _ n.ensures.1 _ h _ f.ensures (ap not c.if-not-layout_follows.false) _ c.layout_after.ensures _ c.tallied.ensures _ v.ensures.2 _ w

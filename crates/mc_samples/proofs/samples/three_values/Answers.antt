@@ -13,4 +13,4 @@ pub requantize_code-requires-3 : goal.requantize_code-requires-3
 requantize_code-requires-3 c = search (code-small, rules)
 
 pub returns : goal.returns
-returns c = search three_made
+returns c = (search three_made, c.three_codes-three.ensures.1)

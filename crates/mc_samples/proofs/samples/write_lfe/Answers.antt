@@ -1,5 +1,4 @@
 -- `mc_samples::samples::write_lfe` meets its contract.
-use Prim.Native.Nat.{◌-◌}
 use native.Mathlib.Omega.{arith}
 use Rattle.fill.proofs.InOrder.{starts, more, ends-all}
 use Rattle.mc_values.specs.Values.{lfe_from}

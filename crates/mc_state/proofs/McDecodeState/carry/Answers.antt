@@ -1,8 +1,5 @@
 -- `mc_state::McDecodeState::carry` meets its contract.
 use Rattle.mc_state.proofs.CarryLaws.{carry-refused, carry-taken}
-use Rattle.mc_state.proofs.McDecodeState.carry.Reads as reads
-use Rattle.mc_state.proofs.McDecodeState.carry.Lts as lts
-use Rattle.mc_state.proofs.held.held_fits.Reads as held-fits-reads
 use Rattle.mc_state.proofs.McDecodeState.carry.Goals as goal
 
 pub returns-then-not-held_fits : goal.returns-then-not-held_fits

@@ -1,8 +1,6 @@
 -- `mc_state::McDecodeState::new` meets its contract.
 use mathlib.Core.Path.{refl}
 use Rattle.mc_state.specs.Frame.{fresh}
-use Rattle.mc_state.proofs.McDecodeState.new.Reads as reads
-use Rattle.mc_state.proofs.McDecodeState.new.Lts as lts
 use Rattle.mc_state.proofs.McDecodeState.new.Goals as goal
 
 pub returns : goal.returns

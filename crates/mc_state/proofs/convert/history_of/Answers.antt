@@ -1,6 +1,5 @@
 -- `mc_state::convert::history_of` meets its contract.
 use mathlib.Core.Path.{refl, ◌∙◌}
-use Prim.Native.Nat.{◌-◌}
 use native.Mathlib.Omega.{arith}
 use Rattle.fill.proofs.InOrder.{starts, more, ends-all}
 use Rattle.mc_state.proofs.CarryLaws.{tab-list}

@@ -1,7 +1,5 @@
 -- `mc_state::held::front_count` meets its contract.
 use borrow.Author.Tests.{ne_eqb}
-use Rattle.mc_state.proofs.held.front_count.Reads as reads
-use Rattle.mc_state.proofs.held.front_count.Lts as lts
 use Rattle.mc_state.proofs.held.front_count.Goals as goal
 
 pub returns-in-1 : goal.returns-in-1

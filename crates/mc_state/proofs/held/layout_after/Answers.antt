@@ -1,7 +1,5 @@
 -- `mc_state::held::layout_after` meets its contract.
 use Rattle.mc_state.proofs.HeldLaws.{after-second, after_first}
-use Rattle.mc_state.proofs.held.layout_after.Reads as reads
-use Rattle.mc_state.proofs.held.layout_after.Lts as lts
 use Rattle.mc_state.proofs.held.layout_after.Goals as goal
 
 pub returns-then-reading-eq2 : goal.returns-then-reading-eq2

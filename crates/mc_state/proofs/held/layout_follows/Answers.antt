@@ -1,7 +1,5 @@
 -- `mc_state::held::layout_follows` meets its contract.
 use Rattle.mc_state.proofs.HeldLaws.{follows-none, follows-known, follows-counts}
-use Rattle.mc_state.proofs.held.layout_follows.Reads as reads
-use Rattle.mc_state.proofs.held.layout_follows.Lts as lts
 use Rattle.mc_state.proofs.held.layout_follows.Goals as goal
 
 pub returns-then-count-eq0 : goal.returns-then-count-eq0

@@ -1,7 +1,5 @@
 -- `mc_state::held::surround_count` meets its contract.
 use borrow.Author.Tests.{ne_eqb}
-use Rattle.mc_state.proofs.held.surround_count.Reads as reads
-use Rattle.mc_state.proofs.held.surround_count.Lts as lts
 use Rattle.mc_state.proofs.held.surround_count.Goals as goal
 
 pub returns-in-3 : goal.returns-in-3

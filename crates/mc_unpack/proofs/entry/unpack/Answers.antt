@@ -15,8 +15,8 @@ returns-then-err-ne0 c =
     let l = loan_by a.reading a.rate a.base_channels a.header a.status a.lfe_allocation a.nb_steps.now a.base_nb_steps.now in
     refused-after l a.bytes.now a.bits a.raw.now a.lfe.now _ c.decide-payload.ensures c.if-err-ne0.true _ c.error_of.ensures _ c.refused.ensures
 
-pub write_raw-requires : goal.write_raw-requires
-write_raw-requires c =
+pub write_raw-excess_codes-requires : goal.write_raw-excess_codes-requires
+write_raw-excess_codes-requires c =
     let a = c.args in
     let l = loan_by a.reading a.rate a.base_channels a.header a.status a.lfe_allocation a.nb_steps.now a.base_nb_steps.now in
     let r = writers-ready l a.bytes.now a.bits a.raw.now a.lfe.now _ c.decide-payload.ensures c.if-err-ne0.false in
@@ -32,4 +32,4 @@ pub returns : goal.returns
 returns c =
     let a = c.args in
     let l = loan_by a.reading a.rate a.base_channels a.header a.status a.lfe_allocation a.nb_steps.now a.base_nb_steps.now in
-    accepted-after l a.bytes.now a.bits a.raw.now a.lfe.now _ c.decide-payload.ensures c.if-err-ne0.false _ _ c.write_raw.ensures c.write_lfe.ensures _ c.accepted.ensures
+    accepted-after l a.bytes.now a.bits a.raw.now a.lfe.now _ c.decide-payload.ensures c.if-err-ne0.false _ _ c.write_raw-excess_codes.ensures.0 c.write_lfe.ensures _ c.excesses-excesses.ensures _ c.write_raw-excess_codes.ensures.1 _ c.accepted.ensures

@@ -13,4 +13,4 @@ pub returns-in-Accepted : goal.returns-in-Accepted
 unfolding after_frame
 returns-in-Accepted g c =
     let d = c.decode_body-framed in
-    step-accepted c.args.n d.result _ _ (on-before _ _ _ _ _ _ d.ensures c.before_frame-before.ensures) _ _ c.in-Accepted.is
+    step-accepted c.args.n d.result _ _ (on-before _ _ _ _ _ _ d.ensures c.before_frame-before.ensures) _ _ _ c.in-Accepted.is

@@ -1,6 +1,5 @@
 -- `part_tables::pack::write_delays` meets its contract.
 use mathlib.Core.Path.{refl, ◌∙◌}
-use Prim.Native.Nat.{◌-◌}
 use native.Mathlib.Omega.{arith}
 use Rattle.fill.proofs.InOrder.{starts, more, ends-all}
 use Rattle.part_tables.specs.Payload.{flat_delays}

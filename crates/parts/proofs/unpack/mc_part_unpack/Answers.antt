@@ -9,26 +9,26 @@ pub returns-then-not-lent_fits : goal.returns-then-not-lent_fits
 returns-then-not-lent_fits c =
     let a = c.args in
     let l = lent_of a.head.now a.head_bits a.payload.now a.payload_bits a.reading a.rate a.base_channels a.lfe_allocation a.nb_steps.now a.base_nb_steps.now in
-    let w = buffers_from a.scfsi.now a.delays.now a.coefs.now a.scalefactors.now a.raw.now a.lfe.now in
+    let w = buffers_from a.scfsi.now a.delays.now a.coefs.now a.scalefactors.now a.excesses.now a.raw.now a.lfe.now in
     after-lent l w _ c.lent_fits.ensures (ap not c.if-not-lent_fits.true) _ c.pack_refusal.ensures
 
 pub unpack_under-requires : goal.unpack_under-requires
 unpack_under-requires c =
     let a = c.args in
     let l = lent_of a.head.now a.head_bits a.payload.now a.payload_bits a.reading a.rate a.base_channels a.lfe_allocation a.nb_steps.now a.base_nb_steps.now in
-    let w = buffers_from a.scfsi.now a.delays.now a.coefs.now a.scalefactors.now a.raw.now a.lfe.now in
+    let w = buffers_from a.scfsi.now a.delays.now a.coefs.now a.scalefactors.now a.excesses.now a.raw.now a.lfe.now in
     long l w _ c.lent_fits.ensures (ap not c.if-not-lent_fits.false)
 
 pub returns-in-Refused : goal.returns-in-Refused
 returns-in-Refused c =
     let a = c.args in
     let l = lent_of a.head.now a.head_bits a.payload.now a.payload_bits a.reading a.rate a.base_channels a.lfe_allocation a.nb_steps.now a.base_nb_steps.now in
-    let w = buffers_from a.scfsi.now a.delays.now a.coefs.now a.scalefactors.now a.raw.now a.lfe.now in
+    let w = buffers_from a.scfsi.now a.delays.now a.coefs.now a.scalefactors.now a.excesses.now a.raw.now a.lfe.now in
     after-head l w _ c.lent_fits.ensures (ap not c.if-not-lent_fits.false) c.read_head-first.result c.read_head-first.ensures.answer _ c.in-Refused.is _ c.pack_refusal-in-Refused.ensures
 
 pub returns-in-Accepted : goal.returns-in-Accepted
 returns-in-Accepted c =
     let a = c.args in
     let l = lent_of a.head.now a.head_bits a.payload.now a.payload_bits a.reading a.rate a.base_channels a.lfe_allocation a.nb_steps.now a.base_nb_steps.now in
-    let w = buffers_from a.scfsi.now a.delays.now a.coefs.now a.scalefactors.now a.raw.now a.lfe.now in
+    let w = buffers_from a.scfsi.now a.delays.now a.coefs.now a.scalefactors.now a.excesses.now a.raw.now a.lfe.now in
     after-payload l w _ c.lent_fits.ensures (ap not c.if-not-lent_fits.false) c.read_head-first.result c.read_head-first.ensures.answer _ c.in-Accepted.is _ c.unpack_under.ensures

@@ -1,5 +1,5 @@
 -- `replay_list::opening::fill_steps` meets its contract. The loop fills the step counts in order.
-use Rattle.std.proofs.Common.{◌-◌, ap, ◌∙◌, arith}
+use Rattle.std.proofs.Common.{ap, ◌∙◌, arith}
 use Rattle.fill.proofs.InOrder.{starts, more}
 use Rattle.replay_list.specs.Opening.{steps_of}
 use Rattle.replay_list.proofs.OpeningLaws.{steps_all}

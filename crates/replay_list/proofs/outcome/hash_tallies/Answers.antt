@@ -1,5 +1,5 @@
 -- `replay_list::outcome::hash_tallies` meets its contract.
-use Rattle.std.proofs.Common.{◌-◌, arith}
+use Rattle.std.proofs.Common.{arith}
 use Rattle.replay_list.proofs.OutcomeLaws.{numbers-none, numbers_more, numbers-all}
 use Rattle.replay_list.proofs.outcome.hash_tallies.Goals as goal
 

@@ -1,5 +1,5 @@
 -- `replay_list::values::draw_on` meets its contract.
-use Rattle.std.proofs.Common.{ℕ, ◌-◌, sym, refl, ap, ◌∙◌, le_antisymm, arith}
+use Rattle.std.proofs.Common.{ℕ, sym, refl, ap, ◌∙◌, le_antisymm, arith}
 use Rattle.replay_list.specs.Values.{drawn, drawn_to}
 use Rattle.replay_list.proofs.ValuesLaws.{draw-more}
 use Rattle.replay_list.proofs.values.draw_on.Goals as goal

@@ -1,5 +1,5 @@
 -- `replay_list::values::fill_values` meets its contract. The loop draws in order.
-use Rattle.std.proofs.Common.{◌-◌, arith}
+use Rattle.std.proofs.Common.{arith}
 use Rattle.replay_list.proofs.ValuesLaws.{draw-starts, draws, drawn-all}
 use Rattle.replay_list.proofs.values.fill_values.Goals as goal
 

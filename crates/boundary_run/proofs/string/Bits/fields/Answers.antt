@@ -1,5 +1,5 @@
 -- `boundary_run::string::Bits::fields` meets its contract: after k turns there are k fields more.
-use Prim.Native.Nat.{ℕ, ◌-◌}
+use Prim.Native.Nat.{ℕ}
 use mathlib.Core.Path.{◌≡◌, refl, ap, ◌∙◌}
 use native.Mathlib.Omega.{arith}
 use Rattle.boundary_run.specs.String.{fields_of}
