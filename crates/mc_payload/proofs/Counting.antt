@@ -1,5 +1,5 @@
 -- Sums over turns, cut in two, moved and bounded, by which codes are counted.
-use Rattle.std.specs.Prelude.{◌≡◌, refl, Bool, true, false, cond, ℕ, zero, suc, ◌+◌, ◌≤◌, eqb}
+use Rattle.std.specs.Prelude.{◌≡◌, refl, ℕ, zero, suc, ◌+◌, ◌≤◌}
 use Rattle.std.proofs.Common.{arith}
 use Rattle.bits.specs.Total.{total}
 use Rattle.mc_payload.specs.Record.{one_for}
@@ -40,8 +40,15 @@ total-most zero i w h = omega arith
 total-most (suc n) i w h = omega (arith, h i, total-most n (suc i) w h)
 
 pub one-most : (n : ℕ) → one_for n ≤ 1
-one-most n = go (eqb n 0)
-  where
-    go : (t : Bool) → cond t 0 1 ≤ 1
-    go true = omega arith
-    go false = omega arith
+unfolding one_for
+one-most zero = omega arith
+one-most (suc n) = omega arith
+
+pub one_none : (n : ℕ) → n ≡ 0 → one_for n ≡ 0
+unfolding one_for
+one_none n e = rw e
+
+pub one-some : (n : ℕ) → (n ≡ 0 → ⊥) → one_for n ≡ 1
+unfolding one_for
+one-some zero h = absurd (h refl)
+one-some (suc n) h = refl

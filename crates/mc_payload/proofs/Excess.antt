@@ -11,7 +11,7 @@ use Rattle.mc_payload.specs.Payload.{Codes}
 use Rattle.mc_payload.specs.Record.{excess_at, excesses_of, one_for, excess_codes}
 use Rattle.mc_payload.specs.Excess.{most, NoneMore}
 use Rattle.mc_payload.specs.Unpack.{settings_of}
-use Rattle.mc_payload.proofs.Counting.{one-most}
+use Rattle.mc_payload.proofs.Counting.{one-most, one_none}
 use Rattle.mc_payload.proofs.Longest.Bound.{carried_none}
 
 ninety : total 1152 0 (λ k. cond (ltb k 1080) 1 0) ≡ most
@@ -34,7 +34,7 @@ entry-most s c k h = rw (get_or-tab 0 (λ (k : ℕ). excess_at s c (k % 12) (k /
   where
     go : (t : Bool) → ltb k 1080 ≡ t → one_for (excess_at s c (k % 12) (k / 12 % 3) (k / 36)) ≤ cond t 1 0
     go true e = one-most _
-    go false e = rw (past-none s c k h e) (omega arith)
+    go false e = rw (one_none _ (past-none s c k h e)) (omega arith)
 
 pub excess-most : (s : McSettings) (c : Codes) → excess_codes (excesses_of s c) ≤ most
 unfolding excess_codes

@@ -1,5 +1,5 @@
 -- From codes to the record (ISO/IEC 13818-3, 2.5.2.17 and 2.5.3.2.4; ISO/IEC 11172-3, 2.4.3.3): what each field says, by its place.
-use Rattle.std.specs.Prelude.{cond, List, ℕ, ◌+◌, ◌*◌, ◌/◌, ◌%◌, eqb, ltb, Float, get_or}
+use Rattle.std.specs.Prelude.{cond, List, ℕ, zero, suc, ◌+◌, ◌*◌, ◌/◌, ◌%◌, eqb, ltb, Float, get_or}
 use Rattle.fill.specs.Tab.{tab}
 use Rattle.floats.specs.Binary64.{zero64}
 use Rattle.bits.specs.Total.{total}
@@ -98,8 +98,9 @@ record_of s c =
     }
 
 -- one for a number that is not 0
-abbrev pub one_for : ℕ → ℕ
-one_for n = cond (eqb n 0) 0 1
+unfoldable pub one_for : ℕ → ℕ
+one_for zero = 0
+one_for (suc n) = 1
 
 -- how many group codes hold more than their digits
 unfoldable pub excess_codes : List ℕ → ℕ

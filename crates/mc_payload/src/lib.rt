@@ -1,5 +1,5 @@
-// What a payload is read under, and the subband limits. The definition of the payload (ISO/IEC 13818-3, 2.5.1.17), demand 3 and the longest
-// payload stand in specs/.
+// What a payload is read under, and the subband limits. The definition of the payload (ISO/IEC 13818-3, 2.5.1.17), demand 3, the
+// number of excesses and the longest payload stand in specs/.
 #![tactic(auto)]
 
 ghost use Rattle.std.specs.Prelude.{◌≡◌};

@@ -1,6 +1,6 @@
 -- What the loops over granules and over places have counted, and the entries of the table of excesses.
 use Rattle.std.specs.Prelude.{◌≡◌, refl, true, false, List, ℕ, zero, suc, ◌+◌, ◌*◌, ◌/◌, ◌%◌, ◌≤◌, ◌<◌, T, get_or, replicate}
-use Rattle.std.proofs.Common.{sym, ◌∙◌, subst, arith, eq-eqb, ne_eqb}
+use Rattle.std.proofs.Common.{sym, ◌∙◌, subst, arith}
 use Rattle.std.proofs.Math.Nat.{div-le_self}
 use Rattle.std.proofs.lemmas.List.{set-get_or, get_or-replicate}
 use Rattle.fill.proofs.TabLaws.{get_or-tab}
@@ -12,7 +12,7 @@ use Rattle.bitalloc.specs.declared.QuantClass.{QuantClass}
 use Rattle.bitalloc.proofs.Places.{class-steps}
 use Rattle.requant.specs.Requant.{excess_of}
 use Rattle.mc_payload.specs.Record.{one_for, excess_codes}
-use Rattle.mc_payload.proofs.Counting.{total-more, total-split, total-from, total-most, one-most}
+use Rattle.mc_payload.proofs.Counting.{total-more, total-split, total-from, total-most, one-most, one_none, one-some}
 use Rattle.mc_payload.proofs.Excess.{single_none}
 use Rattle.mc_values.specs.Values.{first_at, code_excess, excess_by, excess_in, excesses_from}
 
@@ -33,12 +33,12 @@ module _ (f : ℕ → ℕ) (n count : ℕ) (e : count ≡ counted f n) where
 
   module _ (x : ℕ) (is : x ≡ f n) where
     pub count_one : (x ≡ 0 → ⊥) → count + 1 ≡ counted f (n + 1)
-    count_one h = let y = rw is at h in rw (counted-more f n, ne_eqb (f n) 0 y, e)
+    count_one h = let y = rw is at h in rw (counted-more f n, one-some (f n) y, e)
 
     pub count_none : x ≡ 0 → count ≡ counted f (n + 1)
     count_none z =
         let y : f n ≡ 0 = sym is ∙ z in
-        rw (counted-more f n, eq-eqb (f n) 0 y) (e ∙ omega arith)
+        rw (counted-more f n, one_none (f n) y) (e ∙ omega arith)
 
 -- the excess of granule gr of place i
 pub excess-here : (n : ℕ) → is_class n ≡ true → (class : QuantClass) → class ≡ class_of n → (granules : List ℕ) (i gr x : ℕ)
@@ -76,7 +76,7 @@ module _ (own granules : List ℕ) where
 
     -- a place without samples has none
     pub place-skipped : get_or own i 0 ≡ 0 → count ≡ counted (excess_in own granules) (12 * (i + 1))
-    unfolding excess_by code_excess total
+    unfolding excess_by code_excess total one_for
     place-skipped z =
         let none : counted (place i) 12 ≡ 0 = rw (z, single_none) in
         rw (places-more i, none) (e ∙ omega arith)
