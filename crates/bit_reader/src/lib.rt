@@ -66,7 +66,7 @@ impl<'a> BitReader<'a> {
 // A read through a reader that is made for it.
 pub fn read_field(bytes: &[u8], limit: usize, at: usize, n: usize) -> BitRead
     requires { n ≤ 16 }
-    ensures { result ≡ read_at bytes.now limit at n }
+    ensures field { result ≡ read_at bytes.now limit at n }
 {
     BitReader::new(bytes, limit, at).read(n)
 }

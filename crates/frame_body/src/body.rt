@@ -95,7 +95,7 @@ pub fn decode_body(
 }
 
 // The output channels of a head; none of a refused one.
-fn layout_of(head: &[u8], bits: usize, reading: u32, base_channels: u8) -> Layout
+pub fn layout_of(head: &[u8], bits: usize, reading: u32, base_channels: u8) -> Layout
     ensures { result ≡ layout_for (head_of reading head.now bits base_channels) base_channels }
 {
     let found = read_head(head, bits, reading, base_channels);

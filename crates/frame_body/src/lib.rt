@@ -3,4 +3,4 @@
 
 mod body;
 
-pub use body::{decode_body, first_state, layout_in, second_state};
+pub use body::{decode_body, first_state, layout_in, layout_of, second_state};

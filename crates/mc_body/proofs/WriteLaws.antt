@@ -59,7 +59,7 @@ module _ (s : McSettings) (p : McPayload) (e : p.places ≡ places_of s) where
   record-fits w z raw er d ed x =
       record {
         raw_long = rw er (length-tab _ 3456);
-        listed = λ i h. w.factors i;
+        listed = λ i h. w.factors.1 i;
         small = λ g px hg hp. rw (ed, get_or-tab {A = List ℕ} [] _ 8 g hg, get_or-tab {A = ℕ} 0 _ 6 px hp) (z.small (6 * g + px) (omega arith));
       }
 

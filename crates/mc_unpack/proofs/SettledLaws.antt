@@ -88,4 +88,4 @@ settled-writable s bytes bits c u e =
     let t = taken (allocations_fit s) (run (payload_of s) bytes bits 0) (plain 8) c u e in
     let f : Fitting s c = accepted-yields (codes-fit s) bytes bits 0 c u t.1 in
     let b = accepted-yields (payload-yields _ _ _ _ _) bytes bits 0 c u t.1 in
-    record { steps = own-steps s t.0; samples = samples-fit _ _ _ _ c f; lfe = lfe-fits _ _ _ _ c f; lf_factor = b.0; factors = b.1.entry }
+    record { steps = own-steps s t.0; samples = samples-fit _ _ _ _ c f; lfe = lfe-fits _ _ _ _ c f; lf_factor = b.0; factors = (b.1.sized, b.1.entry) }

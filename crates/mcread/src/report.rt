@@ -60,7 +60,7 @@ pub fn put_accepted(
 }
 
 // The LFE samples.
-fn put_lfe(out: &mut Out<impl Print>, lfe: &[f64]) {
+pub fn put_lfe(out: &mut Out<impl Print>, lfe: &[f64]) {
     out.put(b"  lfe");
     for x in lfe {
         out.put(b" ");
@@ -82,7 +82,7 @@ fn put_channel(out: &mut Out<impl Print>, channel: u8, values: &[f64]) {
 }
 
 // Each output channel of the layout.
-fn put_channels(out: &mut Out<impl Print>, layout: Layout, output: &[f64]) {
+pub fn put_channels(out: &mut Out<impl Print>, layout: Layout, output: &[f64]) {
     let names = layout.channels;
     for c in 0usize..5 {
         let from = 1152 * c;
