@@ -216,7 +216,7 @@ static inline uint64_t mc_decode_frame(McDecodeState *state,
         raw, raw_len, work, work_len, output, output_len, lfe, lfe_len);
 }
 
-/* The refusals, by their numbers in document 01's table and the requests after it. They are looked for
+/* The refusals, by the numbers of README's table. They are looked for
  * in the order 6, 14, 7, header (1, then 13), the rest of the head (1, then 2), 8, scfsi (1), 3, the
  * remaining bits in turn (1 before 4), 5. */
 enum {

@@ -1,4 +1,4 @@
-//! The excesses of group codes (document 02, L2): what is left of a code beside its three digits, in cubes
+//! The excesses of group codes: what is left of a code beside its three digits, in cubes
 //! of the step count. The published Rust drops them, so the group codes of an accepted payload are read
 //! here once more, from its string and by the published classes. The generator has the excesses from the
 //! codes that it writes (`generator::group_codes`).

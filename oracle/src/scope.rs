@@ -1,4 +1,4 @@
-//! Document 01's side of a frame, with document 02's readings and desks: flat buffers, the state with
+//! The scope's side of a frame, with readings and desks: flat buffers, the state with
 //! its layout and its tallies, carrying, conversion, and the five refusals that the published code does
 //! not have. Those (6, 7, 8, 13 and 14), and refusal 5 of a layout that changes without its number of
 //! channels, are written here by hand; every other refusal and every value is the reference's, under
@@ -13,7 +13,7 @@ use crate::output::{CentreField, FrameOutput, HeadOutput};
 use crate::{layouts, reference_centre, reference_frame, reference_head, reference_places};
 use std::borrow::Cow;
 
-/// A refusal by document 01's number; group and code are 0 except under 2.
+/// A refusal by its number; group and code are 0 except under 2.
 #[derive(Debug, Clone, Copy, PartialEq, Eq, Hash)]
 pub struct Refusal {
     pub number: u32,

@@ -103,7 +103,7 @@ fn centre_field(head: &[u8], hdr_bits: u64) -> Result<CentreField, McError> {
     Ok(CentreField { at, code })
 }
 
-/// Sources as document 01 writes them, a hyphen where there is no main channel.
+/// Sources as the scope writes them, a hyphen where there is no main channel.
 fn letters(sources: &[TcSource]) -> [u8; 3] {
     core::array::from_fn(|mch| match sources.get(mch) {
         Some(TcSource::Transmitted) => b'T',

@@ -1,4 +1,4 @@
-//! Document 01's boundary frames, on the reference.
+//! The boundary frames, on the reference.
 
 use oracle::generator::Plan;
 use oracle::generator::damage::{Part, cut};

@@ -18,7 +18,7 @@ fn refused(plan: &Plan) -> u32 {
     answer.unwrap_err().number
 }
 
-/// What the published code answers where document 01's own refusals are not put before it.
+/// What the published code answers where the scope's own refusals are not put before it.
 fn published(plan: &Plan) -> Result<FrameOutput, McError> {
     reference_frame(&plan.input(), &mut McDecodeState::new())
 }

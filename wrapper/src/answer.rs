@@ -43,7 +43,7 @@ pub enum McError {
 }
 
 impl McError {
-    /// The number in document 01's table and the requests after it.
+    /// The number in README's table.
     pub const fn number(self) -> u8 {
         match self {
             McError::UnexpectedEnd => 1,

@@ -1,5 +1,5 @@
 -- The classes of quantization of Layer II: ISO/IEC 11172-3, Table B.4. Definitions only.
--- Document 01 takes the decimals of the Rust, which are the table's own.
+-- The decimals are those of the Rust, which are the table's own.
 use Rattle.std.specs.Prelude.{Bool, true, false, cond, List, [], ◌∷◌, ℕ, suc, eqb, ltb, get_or, Float}
 use Rattle.std.specs.Float.Ieee.{round}
 use Rattle.floats.specs.Decimal.{decimal}

@@ -2,7 +2,7 @@
 use Rattle.std.specs.Prelude.{cond, List, ℕ, zero, suc, ◌+◌, leb}
 use Rattle.bits.specs.Bits.{value_at}
 
--- a refusal: document 01's number, and the subband group and the crosstalk code that refusal 2 names (0 otherwise)
+-- a refusal: its number, and the subband group and the crosstalk code that refusal 2 names (0 otherwise)
 pub record Refusal : Type 0 where
   pub number : ℕ
   pub group : ℕ

@@ -1,4 +1,4 @@
-// The lines, in document 01's order.
+// The lines, in the order in which they are printed.
 ghost use Rattle.std.specs.Prelude.{◌≡◌};
 ghost use Rattle.mc_state.specs.Carry.{carried_over};
 ghost use Rattle.boundary_run.specs.Run.{after_run};
@@ -96,7 +96,7 @@ pub fn mono_lines(out: &mut Out<impl Print>) {
     surround_line(out);
 }
 
-// Each refusal of document 01, in a state of 3/2 whose history is of another base.
+// Each refusal, in a state of 3/2 whose history is of another base.
 pub fn refusal_lines(out: &mut Out<impl Print>) {
     let state = line(out, b"3/2", three_two(0.125), McDecodeState::new());
     let mut empty = three_two(0.5);

@@ -1,4 +1,4 @@
-// Runs the boundary frames of document 01 that are executed, each of the ten refusals, centre code 2 and the phantom centre under both readings,
+// Runs the boundary frames, each of the ten refusals, centre code 2 and the phantom centre under both readings,
 // changes of reading with and without carrying, desks and conversion, and group codes with and without an excess, and writes a line on each: what the
 // call answered, and what became of the buffers and of the state.
 #![tactic(auto)]

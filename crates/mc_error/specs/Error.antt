@@ -1,4 +1,4 @@
--- The number, group and code of each refusal: document 01, "What stops a frame", and document 02.
+-- The number, group and code of each refusal.
 use Rattle.bits.specs.Syntax.{Refusal, plain}
 use Rattle.mc_error.specs.declared.McError.{McError}
 use Rattle.mc_error.specs.declared.McError.TheVariants.{UnexpectedEnd, ForbiddenDynCrossMode, MlLayer3Unsupported, ReservedScalefactor, ConfigChanged, InvalidArgument, ValueOutOfRange, InvalidAllocation, UndefinedCentre, InvalidDesk}

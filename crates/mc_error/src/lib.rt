@@ -19,7 +19,7 @@ pub enum McError {
 }
 
 impl McError {
-    // Document 01's number.
+    // The refusal's number.
     pub fn number(self) -> u32
         ensures { result ≡ (refusal_of self).number }
     {

@@ -11,7 +11,7 @@ use Rattle.mc_fields.specs.declared.McStatus.{McStatus}
 abbrev pub values_of : McHead → McHeader × (ℕ × McStatus)
 values_of r = (r.header, (r.check_word, r.status))
 
--- accepted, with the values and the used bits; or refused, with document 01's number, group and code
+-- accepted, with the values and the used bits; or refused, with the refusal's number, group and code
 abbrev pub outcome_by : HeadAnswer → McHeader × (ℕ × McStatus) → Outcome (McHeader × (ℕ × McStatus))
 outcome_by (Accepted used) values = accepted values used
 outcome_by (Refused e) values = refused (refusal_of e)

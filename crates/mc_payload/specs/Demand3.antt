@@ -1,4 +1,4 @@
--- Demand 3: what it says of two accepted payloads under the same settings, and of one that is cut.
+-- The payload is read in one way only: what that says of two accepted payloads under the same settings, and of one that is cut.
 use Rattle.std.specs.Prelude.{true, ◌≡◌, ◌↔◌, List, ℕ, ◌*◌, ◌^◌, ◌≤◌, ◌<◌, Float, length, take}
 use Rattle.std.specs.Float.{binary64}
 use Rattle.std.specs.Float.Ieee.{to_bits}
@@ -31,7 +31,7 @@ pub record SameRecord (s : McSettings) (c c' : Codes) : Type 0 where
   pub raw : (m slot sb : ℕ) → m < 3 → slot < 36 → sb < 32 → (own_at s m sb ≡ 0 → ⊥) → SameFloat (raw_at s c m slot sb) (raw_at s c' m slot sb)
   pub lfe : (gr : ℕ) → gr < 12 → (s.lfe_allocation ≡ 0 → ⊥) → SameFloat (lfe_at s.lfe_allocation c gr) (lfe_at s.lfe_allocation c' gr)
 
--- and so are the excesses of their group codes (document 02, L2)
+-- and so are the excesses of their group codes
 pub record SameWhole (s : McSettings) (c c' : Codes) : Type 0 where
   pub entries : SameRecord s c c'
   pub excess : (gr m sb : ℕ) → gr < 12 → m < 3 → sb < 32 → grouped (own_at s m sb) ≡ true → excess_at s c gr m sb ≡ excess_at s c' gr m sb

@@ -3,7 +3,7 @@ pub mod Places
 pub mod Payload
 pub mod Record
 pub mod Unpack
--- demand 3, the longest payload and the number of excesses
+-- unique reading and cuts, the longest payload and the number of excesses
 pub mod Demand3
 pub mod Excess
 pub mod Longest

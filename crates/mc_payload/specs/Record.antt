@@ -39,7 +39,7 @@ code_of c gr m sb k = get_or c.1.1.1.1 (289 * gr + 1 + 3 * (3 * sb + m) + k) 0
 abbrev pub sample_code_of : ℕ → Codes → ℕ → ℕ → ℕ → ℕ
 sample_code_of n c m slot sb = cond (grouped n) (get_or (degrouped n (code_of c (slot / 3) m sb 0)) (slot % 3) 0) (code_of c (slot / 3) m sb (slot % 3))
 
--- what the group code of channel m in subband sb of granule gr holds beyond its digits; 0 where there is none (document 02, L2)
+-- what the group code of channel m in subband sb of granule gr holds beyond its digits; 0 where there is none
 unfoldable pub excess_at : McSettings → Codes → ℕ → ℕ → ℕ → ℕ
 excess_at s c gr m sb =
     let n = own_at s m sb in

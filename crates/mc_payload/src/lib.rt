@@ -1,4 +1,4 @@
-// What a payload is read under, and the subband limits. The definition of the payload (ISO/IEC 13818-3, 2.5.1.17), demand 3, the
+// What a payload is read under, and the subband limits. The definition of the payload (ISO/IEC 13818-3, 2.5.1.17), unique reading and cuts, the
 // number of excesses and the longest payload stand in specs/.
 #![tactic(auto)]
 

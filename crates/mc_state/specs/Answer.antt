@@ -32,7 +32,7 @@ lent_of head head_bits payload payload_bits reading desk rate base_channels base
 abbrev pub buffers_from : List Float → List Float → List Float → List Float → Buffers
 buffers_from raw work output lfe = record { raw = raw; work = work; output = output; lfe = lfe }
 
--- accepted, with the used bits of head and payload and the number of excesses; or refused, with document 01's number, group and code
+-- accepted, with the used bits of head and payload and the number of excesses; or refused, with the refusal's number, group and code
 abbrev pub outcome_of : McAnswer → Answer
 outcome_of (Accepted head_bits payload_bits excess_codes) = accepted (head_bits, excess_codes) payload_bits
 outcome_of (Refused e) = refused (refusal_of e)
@@ -45,7 +45,7 @@ after_of r w = after_by r.answer r.state w
 
 -- ---- carrying and conversion
 
--- 0, or document 01's number
+-- 0, or the refusal's number
 abbrev pub carry_number : CarryAnswer → ℕ
 carry_number Carried = 0
 carry_number (CarryRefused e) = (refusal_of e).number

@@ -1,4 +1,4 @@
--- The boundary frames of document 01 that are marked P, as rows of one table: what is computed, and what it gives.
+-- The boundary frames that are proved, as rows of one table: what is computed, and what it gives.
 use Rattle.std.specs.Prelude.{Bool, true, false, ◌≡◌, List, [], ◌∷◌, ℕ, ◌+◌, ◌-◌, ◌*◌, Float, get_or}
 use Rattle.std.specs.Float.{nan}
 use Rattle.std.specs.Float.Ieee.{neg}

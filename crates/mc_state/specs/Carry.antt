@@ -1,4 +1,4 @@
--- A state carried over to another reading, and one of before there were desks converted (document 02, L7 and L8).
+-- A state carried over to another reading, and one of before there were desks converted.
 use Rattle.std.specs.Prelude.{Bool, ◌&&◌, cond, List, ◌∷◌, ℕ, eqb, Float, length, replicate}
 use Rattle.mc_state.specs.declared.McDecodeState.{McDecodeState}
 use Rattle.mc_state.specs.Held.{held_fits}

@@ -1,4 +1,4 @@
--- Demand 1: what it says of a frame call that is refused, and of one that is accepted.
+-- What is promised on all input: of a frame call that is refused, and of one that is accepted.
 use Rattle.std.specs.Prelude.{◌≡◌, Bool, true, false, ◌||◌, List, [], ◌∷◌, ◌⊎◌, ℕ, ◌<◌, eqb}
 use Rattle.bits.specs.Syntax.{Refusal, plain, accepted, refused}
 use Rattle.mc_config.specs.declared.McHeader.{McHeader}

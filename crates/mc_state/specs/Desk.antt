@@ -1,4 +1,4 @@
--- The eight desks that take turns on one state, and their tallies of accepted frames (document 02, L8).
+-- The eight desks that take turns on one state, and their tallies of accepted frames.
 use Rattle.std.specs.Prelude.{Bool, cond, List, ℕ, ◌+◌, leb, ltb, get_or, set}
 
 -- 0 to 7; else refusal 14

@@ -1,4 +1,4 @@
--- Sequences of frame calls on one state, accepted and refused, from any desks, and a change of readings among them (document 02, L7 and L8). The calls name
+-- Sequences of frame calls on one state, accepted and refused, from any desks, and a change of readings among them. The calls name
 -- their own readings: those before the change may be under reading 1 and those after it under reading 2.
 use Rattle.std.specs.Prelude.{◌≡◌, true, cond, List, [], ◌∷◌, ◌++◌, map, ℕ, ◌+◌, ◌≤◌, eqb, ltb, Float, length}
 use Rattle.bits.specs.Syntax.{accepted, refused}

@@ -1,5 +1,5 @@
-// What a frame call keeps and answers. The definition of the call stands in specs/Frame.antt, demand 1 in specs/Demand1.antt, sequences of calls in
-// specs/Reel.antt, and what the packed answer loses, which is nothing, in specs/Packing.antt.
+// What a frame call keeps and answers. The definition of the call stands in specs/Frame.antt, what is promised on all input in specs/Demand1.antt,
+// sequences of calls in specs/Reel.antt, and what the packed answer loses, which is nothing, in specs/Packing.antt.
 #![tactic(auto)]
 
 use mc_error::McError;

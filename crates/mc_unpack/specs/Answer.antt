@@ -26,7 +26,7 @@ no_tables = (replicate 96 0, (replicate 192 0, (0, (replicate 288 0, replicate 1
 -- ---- what is left
 
 pub record After : Type 0 where
-  -- accepted, with the number of group codes that have an excess and the used bits; or refused, with document 01's number
+  -- accepted, with the number of group codes that have an excess and the used bits; or refused, with the refusal's number
   pub outcome : Outcome (Tables × ℕ)
   pub tables : Tables
   pub raw : List Float

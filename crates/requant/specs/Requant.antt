@@ -1,5 +1,5 @@
 -- The values of codes: a class's samples, grouped codes, LFE samples, prediction coefficients. Definitions only.
--- Each operation on floats rounds once to an f64, in the order of the Rust, as document 01 asks.
+-- Each operation on floats rounds once to an f64, in the order of the Rust.
 use Rattle.std.specs.Prelude.{◌≡◌, false, cond, List, [], ◌∷◌, ℕ, ◌+◌, ◌-◌, ◌*◌, ◌/◌, ◌%◌, ◌^◌, ℤ, pos, ltb, Float, get_or}
 use Rattle.std.specs.Int.Bits.{bit_xor}
 use Rattle.std.specs.Float.{binary64}
@@ -40,7 +40,7 @@ raw_of steps code = requantized (class_of steps) code
 unfoldable pub degrouped : ℕ → ℕ → List ℕ
 degrouped nlevels c = c % nlevels ∷ c / nlevels % nlevels ∷ c / nlevels / nlevels % nlevels ∷ []
 
--- what c is after that: the excess, which is 0 for a code below the cube of nlevels (document 02, L2)
+-- what c is after that: the excess, which is 0 for a code below the cube of nlevels
 unfoldable pub excess_of : ℕ → ℕ → ℕ
 excess_of nlevels c = c / nlevels / nlevels / nlevels
 

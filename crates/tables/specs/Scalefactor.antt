@@ -1,5 +1,5 @@
 -- The scalefactors of Layers I and II: ISO/IEC 11172-3, Table B.1. Definitions only.
--- Document 01 takes the decimals of the Rust, which are the table's own.
+-- The decimals are those of the Rust, which are the table's own.
 use Rattle.std.specs.Prelude.{ℕ, List, [], ◌∷◌, map, get_or, Float}
 use Rattle.std.specs.Float.Ieee.{round}
 use Rattle.floats.specs.Decimal.{decimal}

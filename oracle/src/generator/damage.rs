@@ -1,4 +1,4 @@
-//! Ways to spoil a frame: cuts, flips, noise, and loans that document 01 refuses.
+//! Ways to spoil a frame: cuts, flips, noise, and loans that the scope refuses.
 
 use super::layout::{Layout, STEPS};
 use super::plan::{Plan, Source};

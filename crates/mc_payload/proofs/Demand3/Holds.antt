@@ -1,4 +1,4 @@
--- Demand 3 holds.
+-- The payload is read in one way only.
 use Rattle.std.specs.Prelude.{◌≡◌, refl, true, List, ℕ, ◌*◌, ◌≤◌, ◌<◌, leb, length, take}
 use Rattle.std.proofs.Common.{sym, subst, ◌∙◌, arith, length-take, leb-true, le-leb}
 use Rattle.bits.proofs.SyntaxLaws.{within}

@@ -1,4 +1,4 @@
--- Demand 1 holds.
+-- What is promised on all input holds.
 use Rattle.std.proofs.Math.Path.{◌≡◌, refl}
 use Rattle.std.proofs.Common.{sym, ap, inl, ⊎_elim, arith}
 use Rattle.std.specs.Prelude.{Bool, cond, List, ℕ}

@@ -52,7 +52,7 @@ impl Case {
         }
     }
 
-    /// What document 01 and the Rust say, and the state afterwards.
+    /// What the scope and the Rust say, and the state afterwards.
     pub fn judged(&self) -> (Result<FrameOutput, Refusal>, State) {
         let mut state = self.state.clone();
         let answer = match self.wrong_length {

@@ -56,7 +56,7 @@ fn code(scfsi: Scfsi) -> u8 {
     }
 }
 
-/// What document 01 and the Rust say of what is lent. Refusals 5 and 7 come from a state and from
+/// What the scope and the Rust say of what is lent. Refusals 5 and 7 come from a state and from
 /// base values; the state is a fresh one, and the base is silent.
 pub fn judged(input: &FrameInput) -> Result<FrameOutput, Refusal> {
     let answer = judge(input, &mut State::fresh());
