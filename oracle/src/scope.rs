@@ -161,7 +161,7 @@ fn flat(channels: &[Slots], count: usize) -> Vec<f64> {
     values
 }
 
-/// A frame by documents 01 and 02: its refusal or its values, and the state afterwards. The head is
+/// A frame by the scope: its refusal or its values, and the state afterwards. The head is
 /// that of the string as lent.
 pub fn judge(input: &FrameInput, state: &mut State) -> Result<FrameOutput, Refusal> {
     if !rightly_lent(input, state) {

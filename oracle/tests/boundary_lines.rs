@@ -1,6 +1,6 @@
 //! The lines of the program `boundary`, written once more from the reference: each line of
-//! crates/boundary/stdout has to be what the published Rust answers to the same frame, or documents 01
-//! and 02 where the Rust has no such refusal, reading, desk, carrying or conversion.
+//! crates/boundary/stdout has to be what the published Rust answers to the same frame, or what the
+//! scope says where the Rust has no such refusal, reading, desk, carrying or conversion.
 
 mod lines;
 

@@ -129,7 +129,7 @@ fn entry_16_step_count_that_the_tables_do_not_list() {
     }
 }
 
-/// The tallies are documents 01's and 02's; the published state has none.
+/// The tallies are the scope's; the published state has none.
 #[test]
 fn entry_17_accepted_frames_stay_at_the_top() {
     let mut state = State::fresh();

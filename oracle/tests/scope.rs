@@ -1,4 +1,4 @@
-//! The refusals that documents 01 and 02 add, and the order of all.
+//! The refusals that the scope adds, and the order of all.
 
 use oracle::FrameInput;
 use oracle::generator::damage::{self, Part, WRONG_DESKS, WRONG_READINGS};

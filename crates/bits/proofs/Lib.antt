@@ -1,4 +1,5 @@
 pub mod BitsLaws
+pub mod Cut
 pub mod Entries
 pub mod SyntaxLaws
 pub mod TableFill

@@ -1,8 +1,7 @@
 -- PREFIX, CUT and UNIQUE of a whole string, from its first bit, for every program.
-use Rattle.std.specs.Prelude.{◌≡◌, refl, ◌↔◌, List, ℕ, ◌*◌, ◌≤◌, ◌<◌, take}
-use Rattle.std.proofs.Common.{sym, arith}
+use Rattle.std.specs.Prelude.{◌≡◌, ◌↔◌, List, ℕ, ◌≤◌, ◌<◌}
+use Rattle.std.proofs.Common.{arith}
 use Rattle.bits.specs.Bits.{bit_at}
-use Rattle.bits.proofs.BitsLaws.{bit-take}
 use Rattle.bits.specs.Syntax.{plain, Syntax, accepted, refused, run}
 use Rattle.bits.proofs.SyntaxLaws.{prefix, cut}
 use Rattle.bits.specs.Recovers.{Recovers}
@@ -26,11 +25,3 @@ module _ {A : Type 0} (m : Syntax A) (b b' : List ℕ) (l l' : ℕ) (r : A) (u :
   UNIQUE o r' u' e' =
       let w = unique m b b' l l' 0 r r' u u' o (omega arith) e e' in
       (λ q. ((w.0 q).0, λ i h. (w.0 q).1 i (omega arith) h), λ q. w.1 (q.0, λ i z h. q.1 i h))
-
--- CUT of the same bytes, and of as many bytes from the first on as hold the bits left
-module _ {A : Type 0} (m : Syntax A) (b : List ℕ) (l l' : ℕ) (r : A) (u : ℕ) (e : run m b l 0 ≡ accepted r u) (h : l' < u) where
-  pub CUT-bits : run m b l' 0 ≡ refused (plain 1)
-  CUT-bits = CUT m b b l l' r u e h (λ i z. refl)
-
-  pub CUT-bytes : (k : ℕ) → l' ≤ 8 * k → run m (take k b) l' 0 ≡ refused (plain 1)
-  CUT-bytes k n = CUT m b (take k b) l l' r u e h (λ i z. sym (bit-take b k i (omega arith)))

@@ -1,4 +1,4 @@
-// A loop that fills a buffer, and in specs/ the laws of such loops.
+// A loop that fills a buffer, and in proofs/ the laws of such loops.
 #![tactic(auto)]
 
 ghost use Rattle.std.specs.Prelude.{◌≡◌, ℕ, length};

@@ -1,2 +1,2 @@
-// Laws of binary64 numbers, for the crates above. There is nothing to run: specs/ has them.
+// Binary64 numbers and their laws, for the crates above. There is nothing to run: definitions stand in specs/, laws in proofs/.
 #![tactic(auto)]

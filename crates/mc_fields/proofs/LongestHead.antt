@@ -3,7 +3,7 @@ use Rattle.std.specs.Prelude.{◌≡◌, refl, true, false, List, [], ◌∷◌,
 use Rattle.std.proofs.Common.{◌∙◌, arith, lit≤}
 use Rattle.bits.specs.Bits.{bit_at, value_at}
 use Rattle.bits.specs.Syntax.{plain, accepted, refused, run, bind, both, times}
-use Rattle.bits.proofs.Theorems.{CUT-bits}
+use Rattle.bits.proofs.Cut.{CUT-bits}
 use Rattle.mc_config.specs.Config.{config_of}
 use Rattle.mc_config.proofs.ReadingLaws.{others-known}
 use Rattle.mc_crosstalk.specs.Crosstalk.{sources3, listed, sources_of, predicted_of, predictors_of}

@@ -19,7 +19,7 @@ rate_fits rate = eqb rate 48000 || (eqb rate 44100 || eqb rate 32000)
 abbrev pub steps_fit : ℕ → Bool
 steps_fit n = eqb n 0 || is_class n
 
--- reading, rate, base channel count, LFE allocation, step counts' number, and base step counts are as documents 01 and 02 say
+-- reading, rate, base channel count, LFE allocation, step counts' number, and base step counts may be lent
 unfoldable pub loan_fits : ℕ → ℕ → ℕ → ℕ → List ℕ → List ℕ → Bool
 loan_fits reading rate base_channels lfe steps base_steps =
     reading_fits reading

@@ -1,5 +1,5 @@
-// What a payload is read under, and the subband limits. The definition of the payload (ISO/IEC 13818-3, 2.5.1.17), unique reading and cuts, the
-// number of excesses and the longest payload stand in specs/.
+// What a payload is read under, and the subband limits. The definition of the payload (ISO/IEC 13818-3, 2.5.1.17), and what is
+// stated of unique reading, cuts, the number of excesses and the longest payload, stand in specs/, the proofs in proofs/.
 #![tactic(auto)]
 
 ghost use Rattle.std.specs.Prelude.{◌≡◌};

@@ -1,4 +1,4 @@
--- One frame call: the refusal in the order of documents 01 and 02 or the accepted frame, and what every buffer and the state hold afterwards.
+-- One frame call: the first refusal in a fixed order, or the accepted frame, and what every buffer and the state hold afterwards.
 use Rattle.std.specs.Prelude.{Bool, ◌&&◌, cond, List, ℕ, eqb, Float, length, get_or, replicate}
 use Rattle.std.specs.Float.{nan, binary64}
 use Rattle.std.specs.Float.Ieee.{of_bits, neg, le}
@@ -60,7 +60,7 @@ values_long base_channels raw_left raw_right scaled_left scaled_right =
 abbrev pub room_fits : ℕ → ℕ → ℕ → ℕ → Bool
 room_fits raw work output lfe = eqb raw 3456 && (eqb work 3456 && (eqb output 5760 && eqb lfe 12))
 
--- all that is lent, the buffers by their lengths, is as documents 01 and 02 say
+-- all that is lent, the buffers by their lengths, may be lent, and the state too
 unfoldable pub lent_by : Lent → ℕ → ℕ → ℕ → ℕ → ℕ → ℕ → Bool
 lent_by l raw work output lfe count layout =
     string_fits l.head l.head_bits

@@ -1,5 +1,5 @@
 -- What an accepted payload is fit for: writing its samples, and scaling them.
-use Rattle.std.specs.Prelude.{◌≡◌, ◌×◌, true, ℕ, ◌<◌, length, get_or}
+use Rattle.std.specs.Prelude.{◌≡◌, true, ℕ, ◌<◌, length, get_or}
 use Rattle.mc_payload.specs.declared.McSettings.{McSettings}
 use Rattle.mc_payload.specs.Places.{own_of}
 use Rattle.mc_payload.specs.Payload.{Codes}

@@ -73,7 +73,7 @@ abbrev pub room_fits : ℕ → ℕ → ℕ → ℕ → ℕ → ℕ → ℕ → B
 room_fits scfsi delays coefs scalefactors excesses raw lfe =
     eqb scfsi 96 && (eqb delays 48 && (eqb coefs 144 && (eqb scalefactors 288 && (eqb excesses 1152 && (eqb raw 3456 && eqb lfe 12)))))
 
--- all that is lent, the buffers by their lengths, is as documents 01 and 02 say
+-- all that is lent, the buffers by their lengths, may be lent
 unfoldable pub lent_by : Lent → ℕ → ℕ → ℕ → ℕ → ℕ → ℕ → ℕ → Bool
 lent_by l scfsi delays coefs scalefactors excesses raw lfe =
     string_fits l.head l.head_bits

@@ -1,2 +1,2 @@
-// Raw values, LFE values, coefficients and digits are one to one in their codes, and lie within bounds: theorems in specs/.
+// Raw values, LFE values, coefficients and digits are one to one in their codes, and lie within bounds: theorems in proofs/.
 #![tactic(auto)]

@@ -1,4 +1,4 @@
-//! Layouts, crosstalk codes and roles, written down from documents 01 and 02 and ISO/IEC 13818-3
+//! Layouts, crosstalk codes and roles, written down from the scope and ISO/IEC 13818-3
 //! §2.5.2.15 apart from the published code, so that what is generated does not lean on what is tested.
 
 use super::random::Random;

@@ -36,7 +36,7 @@ passed false o x a u e = let z : ◌≡◌ {A = ℕ} 0 1 = cc in absurd (omega a
 
 -- ---- an accepted payload
 
--- reading, rate, base channel count, LFE allocation and step counts are as documents 01 and 02 say
+-- reading, rate, base channel count, LFE allocation and step counts may be lent
 abbrev pub Lent : Loan → Type 0
 Lent l = loan_fits l.reading l.rate l.base_channels l.lfe l.steps l.base_steps ≡ true
 

@@ -3,7 +3,8 @@ use Rattle.std.specs.Prelude.{◌≡◌, refl, true, List, ℕ, ◌*◌, ◌≤�
 use Rattle.std.proofs.Common.{sym, subst, ◌∙◌, arith, length-take, leb-true, le-leb}
 use Rattle.bits.proofs.SyntaxLaws.{within}
 use Rattle.bits.proofs.Yields.{accepted-yields}
-use Rattle.bits.proofs.Theorems.{UNIQUE, CUT-bits, CUT-bytes}
+use Rattle.bits.proofs.Theorems.{UNIQUE}
+use Rattle.bits.proofs.Cut.{CUT-bits, CUT-bytes}
 use Rattle.bitalloc.specs.Classes.{grouped}
 use Rattle.requant.proofs.Excess.{excess-none}
 use Rattle.mc_fields.specs.Lent.{string_fits}

@@ -1,4 +1,4 @@
-//! Compares the proved library with the published Rust and documents 01 and 02: every answer, every
+//! Compares the proved library with the published Rust and the scope: every answer, every
 //! buffer and the state, in all bits, of frames, of carryings and of conversions. Ends with status 1 at
 //! the first difference.
 
