@@ -1,2 +1,3 @@
 pub mod Vectors
 pub mod Window
+pub mod ReadLaws

@@ -5,7 +5,8 @@ use Prim.Native.Nat.{ℕ}
 use Rattle.bits.specs.Bits.{bit_at, value_at}
 use Rattle.bits.specs.Syntax.{plain, Syntax, done, field, accepted, refused, run}
 use Rattle.bit_reader.specs.Answer.{read_at}
-use Rattle.bit_reader.specs.declared.BitRead.TheVariants.{Value, Short}
+use Rattle.std.specs.Prelude.{Ok, Err}
+use Rattle.mc_error.specs.declared.McError.TheVariants.{UnexpectedEnd}
 
 -- the first bit is the highest
 first : bit_at (0x80 ∷ []) 0 ≡ 1
@@ -27,16 +28,16 @@ unfolding value_at bit_at
 past = refl
 
 -- the last four bits of eight, and one bit too many
-last : read_at (0xab ∷ []) 8 4 4 ≡ Value 0xb 8
+last : read_at (0xab ∷ []) 8 4 4 ≡ Ok 0xb
 unfolding read_at value_at bit_at
 last = refl
 
-short : read_at (0xab ∷ []) 8 4 5 ≡ Short
+short : read_at (0xab ∷ []) 8 4 5 ≡ Err UnexpectedEnd
 unfolding read_at
 short = refl
 
 -- a field of 0 bits at the limit
-empty : read_at (0xab ∷ []) 8 8 0 ≡ Value 0 8
+empty : read_at (0xab ∷ []) 8 8 0 ≡ Ok 0
 unfolding read_at value_at
 empty = refl
 

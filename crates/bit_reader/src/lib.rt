@@ -1,42 +1,35 @@
-// Reads fields of at most 16 bits out of a lent string of bits: the read itself, and a reader that holds the string.
+// Reads fields of at most 16 bits out of a lent string of bits.
 #![tactic(auto)]
 
-ghost use Rattle.std.specs.Prelude.{◌≡◌, ◌≤◌, get_or};
+ghost use Rattle.std.specs.Prelude.{◌≡◌, ◌<◌, ◌≤◌, ◌^◌, IfOk, get_or};
+ghost use Rattle.bits.specs.Syntax.{field, done};
 ghost use Rattle.bit_reader.specs.Answer.{read_at};
+ghost use Rattle.bit_reader.specs.Reads.{Reads};
 
-// The value and the position of the next bit; or short, where the field passes the limit.
-#[derive(Clone, Copy)]
-pub enum BitRead {
-    Value(u32, usize),
-    Short,
-}
+use mc_error::McError;
 
 // The byte at i; 0 past the end.
 fn byte_at(bytes: &[u8], i: usize) -> u32
     ensures value { result ≡ get_or bytes.now i 0 }
     ensures upper_bound { result ≤ 255 }
 {
-    if i < bytes.len() { bytes[i] as u32 } else { 0 }
+    bytes.get(i).map_or(0, |byte| u32::from(*byte))
 }
 
 // The n bits from bit `at` on, the highest first. They lie in three bytes, from that of the first bit on.
-pub fn read_bits(bytes: &[u8], limit: usize, at: usize, n: usize) -> BitRead
+pub fn read_bits(bytes: &[u8], limit: usize, at: usize, n: usize) -> Result<u32, McError>
     requires { n ≤ 16 }
     ensures { result ≡ read_at bytes.now limit at n }
 {
-    if limit < n {
-        return BitRead::Short;
-    }
-    if limit - n < at {
-        return BitRead::Short;
+    if limit < n || limit - n < at {
+        return Err(McError::UnexpectedEnd);
     }
     let first = at / 8;
     let window = byte_at(bytes, first) * 65536
         + byte_at(bytes, first + 1) * 256
         + byte_at(bytes, first + 2);
     let after = 24 - at % 8 - n;
-    let value = (window >> after) % (1u32 << n);
-    BitRead::Value(value, at + n)
+    Ok((window >> after) % (1u32 << n))
 }
 
 // A string of bits and a position in it.
@@ -54,19 +47,14 @@ impl<'a> BitReader<'a> {
         BitReader { bytes, limit, at }
     }
 
-    // The n bits at the reader's position.
-    pub fn read(self, n: usize) -> BitRead
+    // The n bits at the reader's position, which is then after them. Nothing is said of the position after a refusal.
+    pub fn read(&mut self, n: usize) -> Result<u32, McError>
         requires { n ≤ 16 }
-        ensures { result ≡ read_at self.entry.bytes.now self.entry.limit self.entry.at n }
+        ensures reads { Reads self.old (field n (λ v. done v)) result self.new }
+        ensures bound { IfOk result (λ v. v < 2 ^ n) }
     {
-        read_bits(self.bytes, self.limit, self.at, n)
+        let value = read_bits(self.bytes, self.limit, self.at, n)?;
+        self.at += n;
+        Ok(value)
     }
-}
-
-// A read through a reader that is made for it.
-pub fn read_field(bytes: &[u8], limit: usize, at: usize, n: usize) -> BitRead
-    requires { n ≤ 16 }
-    ensures field { result ≡ read_at bytes.now limit at n }
-{
-    BitReader::new(bytes, limit, at).read(n)
 }

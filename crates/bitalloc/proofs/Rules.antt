@@ -1,5 +1,5 @@
 -- The rules that a class keeps, proved for any of the 17 by one computed test.
-use Rattle.std.specs.Prelude.{◌≡◌, Bool, true, false, ◌&&◌, ◌||◌, cond, ℕ, ◌*◌, ◌^◌, ◌≤◌, ◌<◌, T, leb, eqb}
+use Rattle.std.specs.Prelude.{◌≡◌, Bool, true, false, ◌&&◌, ◌||◌, cond, ℕ, ◌*◌, ◌^◌, ◌≤◌, ◌<◌, T, leb, eqb, Option, Some, None}
 use Rattle.std.proofs.Common.{sym, ◌∙◌, subst, arith, leb→le, eqb→eq}
 use Rattle.std.specs.Bool.{beq}
 use Rattle.std.proofs.lemmas.Bool.{false≢true}
@@ -7,7 +7,7 @@ use Rattle.std.specs.Float.Ieee.Fits.{and_l, and_r}
 use Rattle.floats.proofs.Same.{same_bool}
 use Rattle.floats.proofs.Table.{at}
 use Rattle.bitalloc.specs.declared.QuantClass.{QuantClass}
-use Rattle.bitalloc.specs.Classes.{row, classes, class_at, class_index, is_class, class_of}
+use Rattle.bitalloc.specs.Classes.{row, classes, class_at, class_index, is_class, class_of, lookup_of}
 use Rattle.bitalloc.proofs.Places.{class-index-lt}
 
 pub record Rules (class : QuantClass) : Type 0 where
@@ -70,3 +70,15 @@ class-rules i h = rules→ (class_at i) (at (λ _ class. rules class) classes (r
 
 pub steps-rules : (steps : ℕ) → T (is_class steps) → Rules (class_of steps)
 steps-rules steps h = class-rules (class_index steps) (class-index-lt steps h)
+
+-- what a look-up finds is the class, and it keeps the rules
+module _ (steps : ℕ) (found : Option QuantClass) (class : QuantClass) (e : found ≡ lookup_of steps) (is : found ≡ Some class) where
+  pub found-class : T (is_class steps) × (class ≡ class_of steps)
+  found-class = go (is_class steps) (sym e ∙ is)
+    where
+      go : (b : Bool) → cond b (Some (class_of steps)) None ≡ Some class → T b × (class ≡ class_of steps)
+      go true h = (tt, cc)
+      go false h = let z : ◌≡◌ {A = ℕ} 0 1 = cc in absurd (omega arith)
+
+  pub found-rules : Rules class
+  found-rules = subst Rules (sym found-class.1) (steps-rules steps found-class.0)

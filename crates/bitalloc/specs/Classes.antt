@@ -1,11 +1,9 @@
 -- The classes of quantization of Layer II: ISO/IEC 11172-3, Table B.4. Definitions only.
 -- The decimals are those of the Rust, which are the table's own.
-use Rattle.std.specs.Prelude.{Bool, true, false, cond, List, [], ◌∷◌, ℕ, suc, eqb, ltb, get_or, Float}
+use Rattle.std.specs.Prelude.{Bool, true, false, cond, List, [], ◌∷◌, ℕ, suc, eqb, ltb, get_or, Float, Option, Some, None}
 use Rattle.std.specs.Float.Ieee.{round}
 use Rattle.floats.specs.Decimal.{decimal}
 use Rattle.bitalloc.specs.declared.QuantClass.{QuantClass}
-use Rattle.bitalloc.specs.declared.ClassLookup.{ClassLookup}
-use Rattle.bitalloc.specs.declared.ClassLookup.TheVariants.{Found, Unknown}
 
 -- steps, C and D times 10 ^ 11, grouping, bits per codeword, bits per sample
 abbrev pub row : ℕ → ℕ → ℕ → Bool → ℕ → ℕ → QuantClass
@@ -60,8 +58,12 @@ is_class steps = ltb (class_index steps) 17
 abbrev pub class_of : ℕ → QuantClass
 class_of steps = class_at (class_index steps)
 
-abbrev pub lookup_of : ℕ → ClassLookup
-lookup_of steps = cond (is_class steps) (Found (class_of steps)) Unknown
+-- the class's place, and the class, of a number of steps that has one
+abbrev pub index_of : ℕ → Option ℕ
+index_of steps = cond (is_class steps) (Some (class_index steps)) None
+
+abbrev pub lookup_of : ℕ → Option QuantClass
+lookup_of steps = cond (is_class steps) (Some (class_of steps)) None
 
 -- the columns, by the number of steps
 abbrev pub c_of : ℕ → Float

@@ -1,47 +1,48 @@
 // The frames.
 ghost use Rattle.std.specs.Prelude.{◌≡◌};
-ghost use Rattle.boundary.specs.Frames.{three_two, three_one, two_two, one_place, scalefactor_frame, group_code_frame, lfe_frame, longest_frame, phantom_frame, mono_surround, forbidden_frame, layer_three, barred_frame, centre_frame};
+ghost use Rattle.boundary.specs.Frames.{empty, three_two, three_one, two_two, one_place, scalefactor_frame, group_code_frame, lfe_frame, longest_frame, phantom_frame, mono_surround, forbidden_frame, layer_three, barred_frame, centre_frame};
 
 use crate::heads::{crossed_head, longest_head, plain_head};
 use boundary_run::{Bits, Loan, bytes, first_steps, payload_from, payload_of_ones};
 
-// 3/2, 3/1 and 2/2 with nothing transmitted; the base begins with this value.
+// Nothing transmitted; the base begins with this value.
+fn empty(head: Bits, left: f64) -> Loan
+    ensures { result ≡ empty head left }
+{
+    Loan {
+        left,
+        ..Loan::new(head)
+    }
+}
+
 pub fn three_two(left: f64) -> Loan
     ensures { result ≡ three_two left }
 {
-    let mut loan = Loan::new(plain_head(1, 2, 3, 0, 0));
-    loan.left = left;
-    loan
+    empty(plain_head(1, 2, 3, 0, 0), left)
 }
 
 pub fn three_one(left: f64) -> Loan
     ensures { result ≡ three_one left }
 {
-    let mut loan = Loan::new(plain_head(1, 1, 3, 0, 0));
-    loan.left = left;
-    loan
+    empty(plain_head(1, 1, 3, 0, 0), left)
 }
 
 pub fn two_two(left: f64) -> Loan
     ensures { result ≡ two_two left }
 {
-    let mut loan = Loan::new(plain_head(0, 2, 2, 0, 0));
-    loan.left = left;
-    loan
+    empty(plain_head(0, 2, 2, 0, 0), left)
 }
 
 // 3/2 with this step count in one place; the payload has so many bits, first these and then zeros.
 fn one_place(count: u32, start: Bits, payload_bits: usize) -> Loan
     ensures { result ≡ one_place count start payload_bits }
 {
-    let bits = start.bits;
-    let payload = payload_from(&bytes(&bits));
-    let steps = first_steps(1, 1, count);
-    let mut loan = Loan::new(plain_head(1, 2, 3, 0, 0));
-    loan.payload = payload;
-    loan.payload_bits = payload_bits;
-    loan.steps = steps;
-    loan
+    Loan {
+        payload: payload_from(&bytes(&start.bits)),
+        payload_bits,
+        steps: first_steps(1, 1, count),
+        ..Loan::new(plain_head(1, 2, 3, 0, 0))
+    }
 }
 
 // 3/2 with 7 steps in one place, whose last scalefactor is `code`.
@@ -74,26 +75,25 @@ pub fn lfe_scalefactor(code: u32) -> Loan
     ensures { result ≡ lfe_frame code }
 {
     let start = Bits::new().field(6, code);
-    let bits = start.bits;
-    let payload = payload_from(&bytes(&bits));
-    let mut loan = Loan::new(plain_head(1, 2, 3, 1, 0));
-    loan.payload = payload;
-    loan.payload_bits = 6 + 12 * 2;
-    loan.lfe_allocation = 1;
-    loan
+    Loan {
+        payload: payload_from(&bytes(&start.bits)),
+        payload_bits: 6 + 12 * 2,
+        lfe_allocation: 1,
+        ..Loan::new(plain_head(1, 2, 3, 1, 0))
+    }
 }
 
 // Every field at its longest: 65,535 steps in all 30 subbands of three channels.
 pub fn longest(head_bits: usize, payload_bits: usize) -> Loan
     ensures { result ≡ longest_frame head_bits payload_bits }
 {
-    let steps = first_steps(3, 30, 65535);
-    let mut loan = Loan::new(longest_head());
-    loan.head_bits = head_bits;
-    loan.payload_bits = payload_bits;
-    loan.lfe_allocation = 15;
-    loan.steps = steps;
-    loan
+    Loan {
+        head_bits,
+        payload_bits,
+        lfe_allocation: 15,
+        steps: first_steps(3, 30, 65535),
+        ..Loan::new(longest_head())
+    }
 }
 
 // Mono base, phantom centre, second stereo, under a reading; 7 steps in the first subbands of second left. Each has an scfsi code and three
@@ -101,25 +101,25 @@ pub fn longest(head_bits: usize, payload_bits: usize) -> Loan
 pub fn phantom(subbands: u8, reading: u32) -> Loan
     ensures { result ≡ phantom_frame subbands reading }
 {
-    let n = subbands as usize;
-    let steps = first_steps(1, n, 7);
-    let payload = payload_of_ones((20 * n + 7) / 8, 16 * n);
-    let mut loan = Loan::new(plain_head(3, 3, 0, 0, 0));
-    loan.reading = reading;
-    loan.base_channels = 1;
-    loan.payload = payload;
-    loan.payload_bits = 128 * n;
-    loan.steps = steps;
-    loan
+    let n = usize::from(subbands);
+    Loan {
+        reading,
+        base_channels: 1,
+        payload: payload_of_ones((20 * n + 7) / 8, 16 * n),
+        payload_bits: 128 * n,
+        steps: first_steps(1, n, 7),
+        ..Loan::new(plain_head(3, 3, 0, 0, 0))
+    }
 }
 
 // Mono base, no centre, stereo surround.
 pub fn mono_surround() -> Loan
     ensures { result ≡ mono_surround }
 {
-    let mut loan = Loan::new(plain_head(0, 2, 0, 0, 0));
-    loan.base_channels = 1;
-    loan
+    Loan {
+        base_channels: 1,
+        ..Loan::new(plain_head(0, 2, 0, 0, 0))
+    }
 }
 
 // 3/2 with a crosstalk code in group 5.
@@ -140,18 +140,19 @@ pub fn layer_three() -> Loan
 pub fn barred() -> Loan
     ensures { result ≡ barred_frame }
 {
-    let steps = first_steps(1, 13, 7);
-    let mut loan = Loan::new(plain_head(3, 2, 3, 0, 0));
-    loan.steps = steps;
-    loan
+    Loan {
+        steps: first_steps(1, 13, 7),
+        ..Loan::new(plain_head(3, 2, 3, 0, 0))
+    }
 }
 
 // A centre code without surround, under a reading; nothing transmitted, the base begins with this value.
 pub fn centre_code(code: u32, reading: u32, left: f64) -> Loan
     ensures { result ≡ centre_frame code reading left }
 {
-    let mut loan = Loan::new(plain_head(code, 0, 0, 0, 0));
-    loan.reading = reading;
-    loan.left = left;
-    loan
+    Loan {
+        reading,
+        left,
+        ..Loan::new(plain_head(code, 0, 0, 0, 0))
+    }
 }

@@ -1,4 +1,6 @@
 // Head strings, field by field: mc_header(), mc_crc_check, mc_composite_status_info().
+#![tactic(auto, unfolding(crate::specs::Heads::written, crate::specs::Heads::header_of, crate::specs::Heads::plain_head, crate::specs::Heads::crossed_head, crate::specs::Heads::longest_head))]
+
 ghost use Rattle.std.specs.Prelude.{◌≡◌};
 ghost use Rattle.boundary.specs.Heads.{header_of, plain_head, crossed_head, longest_head};
 

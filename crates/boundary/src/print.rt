@@ -1,170 +1,126 @@
 // Writes lines.
 ghost use Rattle.std.specs.Prelude.{◌≡◌};
 ghost use Rattle.boundary_look.specs.Look.{same_values};
-ghost use Rattle.boundary_run.specs.Run.{same_tallies, same_counts, stored_by};
+ghost use Rattle.boundary_run.specs.Run.{same_counts, stored_by};
 
 use boundary_look::{is_stored, same_values};
-use boundary_run::{Found, Loan, Told, in_numbers, ramp};
-use mc_state::{CarriedState, CarryAnswer, McDecodeState};
+use boundary_run::{Found, Loan, Told, ramp};
+use mc_error::McError;
+use mc_state::McDecodeState;
 use program_out::Out;
-
-fn say_answer(out: &mut Out<impl Print>, answer: Told) {
-    let number = answer.number;
-    let first = answer.first;
-    let second = answer.second;
-    if number == 0 {
-        let third = answer.third;
-        write!(
-            out,
-            "accepted, {first} head bits, {second} payload bits, {third} excess codes"
-        );
-    } else {
-        write!(out, "refusal {number}, group {first}, code {second}");
-    }
-}
-
-fn say_tallies(out: &mut Out<impl Print>, tallies: [u32; 8]) {
-    out.put(b"tallies");
-    for tally in tallies {
-        write!(out, " {tally}");
-    }
-}
+use std::fmt;
 
 // The count, the layout where it is known, and the tallies of all desks.
-fn say_counts(out: &mut Out<impl Print>, state: McDecodeState) {
-    let count = state.layout_len;
-    write!(out, "layout count {count}");
-    let layout = state.layout;
-    if layout != 0 {
-        write!(out, ", layout {layout}");
+#[derive(Drop)]
+struct Counts<'a>(&'a McDecodeState);
+
+impl fmt::Display for Counts<'_> {
+    fn fmt<W: fmt::Write>(&self, f: &mut fmt::Formatter<W>) -> fmt::Result {
+        write!(f, "layout count {}", self.0.layout_len)?;
+        if self.0.layout != 0 {
+            write!(f, ", layout {}", self.0.layout)?;
+        }
+        write!(f, ", tallies")?;
+        for tally in self.0.accepted {
+            write!(f, " {tally}")?;
+        }
+        Ok(())
     }
-    out.put(b", ");
-    let tallies = state.accepted;
-    say_tallies(out, tallies);
 }
 
 // Whether the history holds the base's last slots; one base channel stands in both halves.
 fn stored(loan: Loan, state: McDecodeState) -> bool
     ensures { result ≡ stored_by loan state.pred_hist }
 {
-    let history = state.pred_hist;
     let left = ramp(loan.left);
     if loan.base_channels == 1 {
-        return is_stored(&history, &left, &left);
+        return is_stored(&state.pred_hist, &left, &left);
     }
     let right = ramp(loan.right);
-    is_stored(&history, &left, &right)
+    is_stored(&state.pred_hist, &left, &right)
 }
 
 fn same_history(before: McDecodeState, after: McDecodeState) -> bool
     ensures { result ≡ same_values before.pred_hist after.pred_hist }
 {
-    let old = before.pred_hist;
-    let new = after.pred_hist;
-    same_values(&old, &new)
-}
-
-fn same_tallies(xs: [u32; 8], ys: [u32; 8]) -> bool
-    ensures { result ≡ same_tallies xs ys }
-{
-    let mut are = true;
-    for desk in 0usize..8 {
-        are = are & (xs[desk] == ys[desk]);
-    }
-    are
+    same_values(&before.pred_hist, &after.pred_hist)
 }
 
 // Whether the count, the layout and the tallies are the same.
 fn same_counts(before: McDecodeState, after: McDecodeState) -> bool
     ensures { result ≡ same_counts before after }
 {
-    let old = before.accepted;
-    let new = after.accepted;
-    let tallies = same_tallies(old, new);
-    (before.layout_len == after.layout_len) & ((before.layout == after.layout) & tallies)
+    before.layout_len == after.layout_len
+        && before.layout == after.layout
+        && before.accepted == after.accepted
 }
 
 // What became of the state.
 fn say_state(out: &mut Out<impl Print>, loan: Loan, before: McDecodeState, after: McDecodeState) {
     let counts = same_counts(before, after);
-    if same_history(before, after) & counts {
-        out.put(b"; state as it was");
+    if counts && same_history(before, after) {
+        write!(out, "; state as it was");
         return;
     }
-    if stored(loan, after) {
-        out.put(b"; history stored, ");
+    let history = if stored(loan, after) {
+        "stored"
     } else {
-        out.put(b"; history neither stored nor as it was, ");
-    }
-    say_counts(out, after);
+        "neither stored nor as it was"
+    };
+    write!(out, "; history {history}, {}", Counts(&after));
     if counts {
-        out.put(b" as they were");
+        write!(out, " as they were");
     }
 }
 
 // The answer, the buffers and the state, without the line's end.
 pub fn say_found(out: &mut Out<impl Print>, loan: Loan, before: McDecodeState, found: Found) {
-    let answer = found.answer;
-    let state = found.state;
-    out.put(b": ");
-    say_answer(out, in_numbers(answer));
+    write!(out, ": {}", Told(found.answer));
     if found.kept {
-        out.put(b"; buffers as they were");
+        write!(out, "; buffers as they were");
     }
-    say_state(out, loan, before, state);
+    say_state(out, loan, before, found.state);
 }
 
 // What carrying answered, and what became of the state, without the line's end.
-pub fn say_carried(out: &mut Out<impl Print>, before: McDecodeState, carried: CarriedState) {
-    let answer = carried.answer;
-    let after = carried.state;
-    match answer {
-        CarryAnswer::Carried => {
-            out.put(b": carried");
-        }
-        CarryAnswer::Refused(e) => {
-            let number = e.number();
-            write!(out, ": refusal {number}");
-        }
+pub fn say_carried(
+    out: &mut Out<impl Print>,
+    carried: Result<(), McError>,
+    before: McDecodeState,
+    after: McDecodeState,
+) {
+    match carried {
+        Ok(()) => write!(out, ": carried"),
+        Err(e) => write!(out, ": refusal {}", e.number()),
     }
     let history = same_history(before, after);
-    if history & same_counts(before, after) {
-        out.put(b"; state as it was");
+    if history && same_counts(before, after) {
+        write!(out, "; state as it was");
         return;
     }
-    if history {
-        out.put(b"; history as it was, ");
+    let kept = if history {
+        "as it was"
     } else {
-        out.put(b"; history not as it was, ");
-    }
-    say_counts(out, after);
+        "not as it was"
+    };
+    write!(out, "; history {kept}, {}", Counts(&after));
 }
 
-// What conversion answered, and what became of the state and of the older one's history, without the line's end.
+// What conversion answered, and what became of the older state's history, without the line's end; a refusal gives no state in place of the one before.
 pub fn say_converted(
     out: &mut Out<impl Print>,
-    before: McDecodeState,
     history: &[f64],
-    converted: CarriedState,
+    converted: Result<McDecodeState, McError>,
 ) {
-    let answer = converted.answer;
-    let after = converted.state;
-    match answer {
-        CarryAnswer::Carried => {
-            let kept = after.pred_hist;
-            if same_values(&kept, history) {
-                out.put(b": converted; history kept, ");
+    match converted {
+        Ok(after) => {
+            let kept = if same_values(&after.pred_hist, history) {
+                "kept"
             } else {
-                out.put(b": converted; history not kept, ");
-            }
-            say_counts(out, after);
+                "not kept"
+            };
+            write!(out, ": converted; history {kept}, {}", Counts(&after));
         }
-        CarryAnswer::Refused(e) => {
-            let number = e.number();
-            write!(out, ": refusal {number}");
-            if same_history(before, after) & same_counts(before, after) {
-                out.put(b"; state as it was");
-            }
-        }
+        Err(e) => write!(out, ": refusal {}; state as it was", e.number()),
     }
 }

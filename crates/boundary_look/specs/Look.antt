@@ -1,9 +1,11 @@
 -- What is looked at in buffers and state after a frame call.
-use Rattle.std.specs.Prelude.{Bool, ◌&&◌, cond, List, ℕ, zero, suc, ◌+◌, ◌*◌, ◌/◌, ◌%◌, eqb, Float, length, get_or}
+use Rattle.std.specs.Prelude.{Bool, true, false, ◌&&◌, cond, Option, Some, List, ℕ, zero, suc, ◌+◌, ◌*◌, ◌/◌, ◌%◌, eqb, Float, length, get_or}
 use Rattle.std.specs.Float.{nan, binary64}
 use Rattle.std.specs.Float.Ieee.{of_bits, eq}
 use Rattle.floats.specs.Binary64.{◌⊘◌, zero64}
 use Rattle.fill.specs.Each.{each}
+use Rattle.boundary_look.specs.declared.look.Held.{Held}
+use Rattle.boundary_look.specs.declared.look.Held.TheVariants.{Zero, Base, Other}
 
 -- equal, and zeros of the same sign; a NaN is the same as nothing
 unfoldable pub same : Float → Float → Bool
@@ -44,12 +46,19 @@ zeros_at output subband slot = same (second_at output subband slot) zero64
 abbrev pub bases_at : List Float → List Float → ℕ → ℕ → Bool
 bases_at output base subband slot = same (second_at output subband slot) (get_or base (32 * slot + subband) nan)
 
--- what the second output channel holds in all slots of a subband: 1 for +0, 2 for the base value, else 0
-unfoldable pub held_of : List Float → List Float → ℕ → ℕ
+-- what the second output channel holds in all slots of a subband
+unfoldable pub held_of : List Float → List Float → ℕ → Held
 held_of output base subband =
-    cond (each (zeros_at output subband) 36) 1 (cond (each (bases_at output base subband) 36) 2 0)
+    cond (each (zeros_at output subband) 36) Zero (cond (each (bases_at output base subband) 36) Base Other)
+
+-- whether it holds that; nothing holds None
+abbrev pub holds : Held → Option Held → Bool
+holds Zero (Some Zero) = true
+holds Base (Some Base) = true
+holds Other (Some Other) = true
+holds _ _ = false
 
 -- the first of n subbands that does not hold that, or the one after them
-unfoldable pub held_until : List Float → List Float → ℕ → ℕ → ℕ → ℕ
+unfoldable pub held_until : List Float → List Float → Option Held → ℕ → ℕ → ℕ
 held_until output base what zero subband = subband
-held_until output base what (suc n) subband = cond (eqb (held_of output base subband) what) (held_until output base what n (subband + 1)) subband
+held_until output base what (suc n) subband = cond (holds (held_of output base subband) what) (held_until output base what n (subband + 1)) subband

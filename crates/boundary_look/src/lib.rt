@@ -3,4 +3,6 @@
 
 mod look;
 
-pub use look::{all_are, holds_until, is_stored, same_values, second_is_first, third_is_silent};
+pub use look::{
+    Held, all_are, holds_until, is_stored, same_values, second_is_first, third_is_silent,
+};

@@ -1,9 +1,10 @@
 // What is looked at in buffers and state after a frame call.
 ghost use Rattle.std.specs.Prelude.{◌≡◌, ◌-◌, ◌<◌};
 ghost use Rattle.fill.specs.Each.{each};
-ghost use Rattle.boundary_look.specs.Look.{same as Look·same, all_are, same_values, is_stored, second_is_first, third_is_silent, held_of, held_until};
+ghost use Rattle.boundary_look.specs.Look.{same as Look·same, all_are, same_values, is_stored, second_is_first, third_is_silent, zeros_at, bases_at, held_of, held_until};
 
 // The same bits: equal, and zeros of the same sign. A NaN is the same as nothing.
+#[tactic(auto, unfolding(crate::specs::Look::same))]
 fn same(x: f64, y: f64) -> bool
     ensures { result ≡ Look·same x y }
 {
@@ -14,93 +15,92 @@ fn same(x: f64, y: f64) -> bool
 pub fn all_are(xs: &[f64], x: f64) -> bool
     ensures { result ≡ all_are xs.now x }
 {
-    let mut are = true;
-    let mut k: usize = 0;
-    while k < xs.len() {
-        are = are & same(xs[k], x);
-        k += 1;
-    }
-    are
+    xs.iter().all(|y| same(*y, x))
 }
 
 // Whether two lists of values are the same.
+#[tactic(auto, unfolding(crate::specs::Look::same_values))]
 pub fn same_values(xs: &[f64], ys: &[f64]) -> bool
     ensures { result ≡ same_values xs.now ys.now }
 {
-    if xs.len() != ys.len() {
-        return false;
-    }
-    let mut are = true;
-    let mut k: usize = 0;
-    while k < xs.len() {
-        are = are & same(xs[k], ys[k]);
-        k += 1;
-    }
-    are
+    xs.len() == ys.len() && xs.iter().zip(ys).all(|(x, y)| same(*x, *y))
 }
 
 // Whether the history holds the last nine slots of a base, oldest first.
 pub fn is_stored(history: &[f64; 576], left: &[f64; 1152], right: &[f64; 1152]) -> bool
     ensures { result ≡ is_stored history.now left.now right.now }
 {
-    let mut are = true;
-    for k in 0usize..288 {
+    (0..288usize).all(|k| {
         let j = (27 + k % 9) * 32 + k / 9;
-        are = are & same(history[k], left[j]) & same(history[288 + k], right[j]);
-    }
-    are
+        same(history[k], left[j]) & same(history[288 + k], right[j])
+    })
 }
 
 // Whether the second channel of the output is the first.
 pub fn second_is_first(output: &[f64; 5760]) -> bool
     ensures { result ≡ each (second_is_first output.now) 1152 }
 {
-    let mut are = true;
-    for k in 0usize..1152 {
-        are = are & same(output[1152 + k], output[k]);
-    }
-    are
+    same_values(&output[1152..2304], &output[..1152])
 }
 
 // Whether the third channel of the output is +0 throughout.
 pub fn third_is_silent(output: &[f64; 5760]) -> bool
     ensures { result ≡ each (third_is_silent output.now) 1152 }
 {
-    let mut are = true;
-    for k in 0usize..1152 {
-        are = are & same(output[2304 + k], 0.0);
-    }
-    are
+    all_are(&output[2304..3456], 0.0)
 }
 
-// What the second channel of the output holds in all slots of a subband: 1 for +0, 2 for the base value, else 0.
-fn held(output: &[f64; 5760], base: &[f64; 1152], subband: usize) -> u8
+// Whether the second channel of the output is +0 in all slots of a subband.
+fn zeros_in(output: &[f64; 5760], subband: usize) -> bool
+    requires { subband < 32 }
+    ensures { result ≡ each (zeros_at output.now subband) 36 }
+{
+    (0..36usize).all(|slot| same(output[1152 + (32 * slot + subband)], 0.0))
+}
+
+// Whether it is the base there.
+fn bases_in(output: &[f64; 5760], base: &[f64; 1152], subband: usize) -> bool
+    requires { subband < 32 }
+    ensures { result ≡ each (bases_at output.now base.now subband) 36 }
+{
+    (0..36usize).all(|slot| {
+        let k = 32 * slot + subband;
+        same(output[1152 + k], base[k])
+    })
+}
+
+// What the second channel of the output holds in all slots of a subband: +0, the base value, or neither.
+#[derive(Clone, Copy, PartialEq, Eq)]
+pub enum Held {
+    Zero,
+    Base,
+    Other,
+}
+
+#[tactic(auto, unfolding(crate::specs::Look::held_of))]
+fn held_in(output: &[f64; 5760], base: &[f64; 1152], subband: usize) -> Held
     requires { subband < 32 }
     ensures { result ≡ held_of output.now base.now subband }
 {
-    let mut zeros = true;
-    let mut bases = true;
-    for slot in 0usize..36 {
-        let k = 32 * slot + subband;
-        zeros = zeros & same(output[1152 + k], 0.0);
-        bases = bases & same(output[1152 + k], base[k]);
+    if zeros_in(output, subband) {
+        Held::Zero
+    } else if bases_in(output, base, subband) {
+        Held::Base
+    } else {
+        Held::Other
     }
-    if zeros {
-        return 1;
-    }
-    if bases { 2 } else { 0 }
 }
 
-// The first subband from `first` on whose second channel does not hold that; 32 if there is none.
-pub fn holds_until(output: &[f64; 5760], base: &[f64; 1152], first: usize, what: u8) -> usize
+// The first subband from `first` on whose second channel does not hold that; if there is none, 32, or `first` where that is more. Nothing holds None.
+pub fn holds_until(
+    output: &[f64; 5760],
+    base: &[f64; 1152],
+    first: usize,
+    what: Option<Held>,
+) -> usize
     ensures { result ≡ held_until output.now base.now what (32 - first) first }
 {
-    let mut subband = first;
-    while subband < 32 {
-        if held(output, base, subband) != what {
-            return subband;
-        }
-        subband += 1;
-    }
-    subband
+    (first..32)
+        .find(|subband| Some(held_in(output, base, *subband)) != what)
+        .unwrap_or(first.max(32))
 }

@@ -1,4 +1,3 @@
 pub mod LoanLaws
 pub mod RunLaws
 pub mod StringLaws
-pub mod ToldLaws

@@ -5,6 +5,7 @@ ghost use Rattle.boundary_run.specs.Loan.{loan_of, ramp_of, step_at, byte_from, 
 
 use crate::string::{Bits, bytes};
 
+// As the frame call is lent it, and so with numbers that may be wrong: bytes with a bit count beside them, any reading, desk and rate.
 #[derive(Clone, Copy)]
 pub struct Loan {
     pub head: [u8; 29],
@@ -28,10 +29,8 @@ impl Loan {
     pub fn new(head: Bits) -> Loan
         ensures { result ≡ loan_of head }
     {
-        let bits = head.bits;
-        let head_bytes = bytes(&bits);
         Loan {
-            head: head_bytes,
+            head: bytes(&head.bits),
             head_bits: head.at,
             payload: [0; 6892],
             payload_bits: 0,
@@ -51,69 +50,51 @@ impl Loan {
 pub fn ramp(start: f64) -> [f64; 1152]
     ensures { result ≡ ramp_of start }
 {
-    let mut out = [0.0; 1152];
-    for k in 0u16..1152 {
-        out[k as usize] = start + k as f64 / 1024.0;
-    }
-    out
+    std::array::from_fn(|k| start + k as f64 / 1024.0)
 }
 
+#[tactic(auto, unfolding(crate::specs::Loan::step_at))]
 fn step_at(channels: usize, subbands: usize, count: u32, k: usize) -> u32
     ensures { result ≡ step_at channels subbands count k }
 {
-    if k / 32 >= channels {
-        return 0;
+    if k / 32 < channels && k % 32 < subbands {
+        count
+    } else {
+        0
     }
-    if k % 32 >= subbands {
-        return 0;
-    }
-    count
 }
 
 // The step count in the first subbands of the first channels, and 0 elsewhere.
 pub fn first_steps(channels: usize, subbands: usize, count: u32) -> [u32; 96]
     ensures { result ≡ tab (step_at channels subbands count) 96 }
 {
-    let mut out = [0u32; 96];
-    for k in 0usize..96 {
-        out[k] = step_at(channels, subbands, count, k);
-    }
-    out
+    std::array::from_fn(|k| step_at(channels, subbands, count, k))
 }
 
+#[tactic(auto, unfolding(crate::specs::Loan::byte_from))]
 fn byte_from(start: &[u8; 29], k: usize) -> u8
     ensures { result ≡ byte_from start.now k }
 {
-    if k < 29 { start[k] } else { 0 }
+    start.get(k).copied().unwrap_or(0)
 }
 
 // A payload that begins with these bytes and is 0 from there on.
 pub fn payload_from(start: &[u8; 29]) -> [u8; 6892]
     ensures { result ≡ tab (byte_from start.now) 6892 }
 {
-    let mut out = [0u8; 6892];
-    for k in 0usize..6892 {
-        out[k] = byte_from(start, k);
-    }
-    out
+    std::array::from_fn(|k| byte_from(start, k))
 }
 
+#[tactic(auto, unfolding(crate::specs::Loan::ones_at))]
 fn ones_at(first: usize, end: usize, k: usize) -> u8
     ensures { result ≡ ones_at first end k }
 {
-    if k < first {
-        return 0;
-    }
-    if k < end { 255 } else { 0 }
+    if first <= k && k < end { 255 } else { 0 }
 }
 
 // A payload whose bytes are 255 from the first to before the end, and 0 elsewhere.
 pub fn payload_of_ones(first: usize, end: usize) -> [u8; 6892]
     ensures { result ≡ tab (ones_at first end) 6892 }
 {
-    let mut out = [0u8; 6892];
-    for k in 0usize..6892 {
-        out[k] = ones_at(first, end, k);
-    }
-    out
+    std::array::from_fn(|k| ones_at(first, end, k))
 }

@@ -1,5 +1,5 @@
 // The columns of a class for other languages. Each function takes any number of steps: of one that is no class's, it
-// answers 0, and a float answer is +0.
+// answers 0, and a float answer is +0. The C interface has a function for each column.
 #![tactic(auto)]
 
 ghost use Rattle.std.specs.Prelude.{◌≡◌};
@@ -26,7 +26,7 @@ pub extern "C" fn mc_leaf_class_bits_per_codeword(nb_steps: u32) -> u32
 pub extern "C" fn mc_leaf_class_grouping(nb_steps: u32) -> u32
     ensures { result ≡ grouping_leaf nb_steps }
 {
-    class_or_zero(nb_steps).grouping as u32
+    u32::from(class_or_zero(nb_steps).grouping)
 }
 
 #[unsafe(no_mangle)]

@@ -1,15 +1,15 @@
 -- Laws of numbers as bytes and of the hash, one step each.
-use Rattle.std.specs.Prelude.{◌≡◌, refl, Bool, true, false, not, List, T, Float, length, drop, get_or}
+use Rattle.std.specs.Prelude.{◌≡◌, refl, Bool, true, false, not, List, [], ◌∷◌, fold, T, Float, length, drop, get_or}
 use Rattle.std.proofs.Common.{sym, ap, ◌∙◌, add-one, lt-ltb, le-ltb, eq-eqb, drop_of_length-le, pow_mono, drop-cons, Fits}
 use Rattle.std.specs.Bool.{beq}
 use Prim.Native.Nat.{ℕ, suc, ◌+◌, ◌-◌, ◌*◌, ◌/◌, ◌%◌, ◌^◌, ◌≤◌, ◌<◌}
 use Rattle.std.proofs.Math.Nat.{mod-add-mod, add-mul-mod_self_right}
 use native.Mathlib.Omega.{arith}
 use Rattle.std.specs.Float.{nan, inf, fin, binary64}
-use Rattle.std.specs.Float.Ieee.{is_nan, eq, ne, level, up, down, to_bits, of_bits, nan_bits, div}
+use Rattle.std.specs.Float.Ieee.{is_nan, eq, ne, up, down, to_bits, of_bits, nan_bits, div}
 use Rattle.std.specs.Float.Ieee.Bits.{nan_bits_is, nan_bits_above}
 use Rattle.std.proofs.Math.Pow.{pow-add}
-use Rattle.std.specs.Int.{w8}
+use Rattle.std.specs.Int.{w8, w64, to_le_bytes}
 use Rattle.encoding.specs.Encoding.{lowest_first, number_at, hash_byte, hash_bytes, hash_number, hash_floats}
 
 -- a loop that reads n bytes from the last to the first has read those from k on
@@ -43,6 +43,11 @@ module _ (bytes : List ℕ) (at n : ℕ) where
 
   pub read-ends : (k value : ℕ) → k ≤ 0 → ReadFrom bytes at n k value → value ≡ lowest_first bytes at n
   read-ends k value h p = let z : k ≡ 0 = omega arith in let a : at + k ≡ at = omega arith in let m : n - k ≡ n = omega arith in rw (a, m) at p.is
+
+-- one byte is its own number
+pub one-byte : (bytes : List ℕ) (at : ℕ) → number_at bytes at 1 ≡ get_or bytes at 0
+unfolding lowest_first
+one-byte bytes at = omega arith
 
 -- one byte and four fit their widths
 module _ (bytes : List ℕ) (at : ℕ) (small : (i : ℕ) → Fits w8 (get_or bytes i 0)) where
@@ -81,6 +86,23 @@ pub floats-more : (h i : ℕ) (xs : List Float) → i < length xs → hash_float
 unfolding hash_floats
 floats-more h i xs l = rw (add-one, drop-cons xs i nan)
 
+-- the hash as a fold, over a number's bytes and over floats
+pub number-folded : (h n : ℕ) → fold hash_byte h (to_le_bytes w64 n) ≡ hash_number h n
+unfolding hash_bytes
+number-folded h n =
+    let two : n / 256 / 256 ≡ n / 65536 = omega arith in
+    let three : n / 65536 / 256 ≡ n / 16777216 = omega arith in
+    let four : n / 16777216 / 256 ≡ n / 4294967296 = omega arith in
+    let five : n / 4294967296 / 256 ≡ n / 1099511627776 = omega arith in
+    let six : n / 1099511627776 / 256 ≡ n / 281474976710656 = omega arith in
+    let seven : n / 281474976710656 / 256 ≡ n / 72057594037927936 = omega arith in
+    rw (two, three, four, five, six, seven)
+
+pub floats-folded : (h : ℕ) (xs : List Float) → fold (λ (hash : ℕ) (x : Float). hash_number hash (to_bits binary64 x)) h xs ≡ hash_floats h xs
+unfolding hash_floats
+floats-folded h [] = refl
+floats-folded h (x ∷ xs) = floats-folded (hash_number h (to_bits binary64 x)) xs
+
 is-nan : (x : Float) → is_nan x ≡ true → nan ≡ x
 unfolding is_nan
 is-nan nan e = refl
@@ -92,8 +114,8 @@ beq-self : (s : Bool) → beq s s ≡ true
 beq-self true = refl
 beq-self false = refl
 
-differs : (x : Float) → ne x x ≡ is_nan x
-unfolding ne eq is_nan level
+pub differs : (x : Float) → ne x x ≡ is_nan x
+unfolding ne eq is_nan
 differs nan = refl
 differs (inf s) = ap not (beq-self s)
 differs (fin s m e) = simp (eq-eqb (m * up e * down e) _ refl, beq-self s)

@@ -11,41 +11,30 @@ fn byte_at(bytes: &[u8], at: usize, k: usize) -> u64
     ensures value { result ≡ get_or bytes.now (at + k) 0 }
     ensures upper_bound { result ≤ 255 }
 {
-    if bytes.len() <= k {
-        return 0;
-    }
-    if bytes.len() - k <= at {
-        return 0;
-    }
-    bytes[at + k] as u64
-}
-
-fn at_most_eight(n: usize) -> usize
-    ensures { result ≡ min n 8 }
-{
-    if n < 8 { n } else { 8 }
+    at.checked_add(k)
+        .and_then(|place| bytes.get(place))
+        .map_or(0, |byte| u64::from(*byte))
 }
 
 // The n bytes from `at` on, at most eight, as a number; bytes past the end count 0.
 pub fn number_at(bytes: &[u8], at: usize, n: usize) -> u64
     ensures { result ≡ number_at bytes.now at n }
 {
-    let mut k = at_most_eight(n);
     let mut value: u64 = 0;
-    while 0 < k {
-        k -= 1;
+    for k in (0..n.min(8)).rev() {
         value = value * 256 + byte_at(bytes, at, k);
     }
     value
 }
 
-// A byte, and four as a number.
+// The byte at an index; 0 past the end.
 pub fn u8_at(bytes: &[u8], at: usize) -> u8
     ensures { result ≡ number_at bytes.now at 1 }
 {
-    number_at(bytes, at, 1) as u8
+    bytes.get(at).copied().unwrap_or(0)
 }
 
+// Four bytes as a number. They fit, so there is no error that TryFrom could answer.
 pub fn u32_at(bytes: &[u8], at: usize) -> u32
     ensures { result ≡ number_at bytes.now at 4 }
 {
@@ -56,10 +45,10 @@ pub fn u32_at(bytes: &[u8], at: usize) -> u32
 pub fn bits_of(x: f64) -> u64
     ensures { result ≡ to_bits binary64 x }
 {
-    if x != x {
+    if x.is_nan() {
         0x7FF8000000000000
     } else {
-        f64::to_bits(x)
+        x.to_bits()
     }
 }
 
@@ -68,7 +57,7 @@ pub fn float_of(bits: u64) -> f64
     ensures { result ≡ of_bits binary64 bits }
 {
     if 0x7FF0000000000000 < bits % 0x8000000000000000 {
-        0.0 / 0.0
+        f64::NAN
     } else {
         f64::from_bits(bits)
     }

@@ -5,8 +5,8 @@ use Rattle.std.proofs.Common.{sym, ap₂, ◌∙◌, eq-or-lt_of_le, le_of_suc-l
 use mathlib.Core.List.{List, [], ◌∷◌, ◌++◌, append-nil}
 use Rattle.std.proofs.Math.Logic.{⊎_elim}
 use Prim.Native.Nat.{ℕ, zero, suc, ◌+◌, ◌-◌, ◌≤◌, ◌<◌}
-use Rattle.std.proofs.Math.ListN.{set, get_or, length-append, get_or-append}
-use Rattle.std.proofs.lemmas.List.{set_at}
+use Rattle.std.proofs.Math.ListN.{replicate, set, get_or, length-append, get_or-append}
+use Rattle.std.proofs.lemmas.List.{set_at, replicate-append-replicate}
 use Rattle.std.proofs.Math.Seq.{append_snoc, get_or-append_seam}
 use Rattle.fill.specs.Tab.{tab, filled}
 
@@ -27,6 +27,11 @@ module _ {A : Type 0} where
       ∙ (set_at (tab f n) (get_or d n z) (drop (suc n) d) (f n) n (length-tab f n)
       ∙ (sym (append_snoc (tab f n) (f n) (drop (suc n) d))
       ∙ ap (λ (k : ℕ). filled f k d) (sym (add-one n))))
+
+  pub tab-constant : (a : A) (n : ℕ) → tab (λ (k : ℕ). a) n ≡ replicate n a
+  unfolding tab
+  tab-constant a zero = refl
+  tab-constant a (suc n) = ap (λ (l : List A). l ++ (a ∷ [])) (tab-constant a n) ∙ (replicate-append-replicate n 1 a ∙ ap (λ (m : ℕ). replicate m a) (add-one n))
 
   pub length-filled : (f : ℕ → A) (n : ℕ) (d : List A) → n ≤ length d → length (filled f n d) ≡ length d
   length-filled f n d h = length-append (tab f n) (drop n d) ∙ (rw (length-tab f n, length-drop n d) (omega arith))

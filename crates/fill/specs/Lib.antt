@@ -1,3 +1,2 @@
 pub mod Tab
 pub mod Each
-pub mod Ascii

@@ -1,4 +1,4 @@
-// A loop that fills a buffer, and in proofs/ the laws of such loops.
+// A buffer of zeros, and in proofs/ the laws of loops that fill a buffer.
 #![tactic(auto)]
 
 ghost use Rattle.std.specs.Prelude.{◌≡◌, ℕ, length};
@@ -9,7 +9,5 @@ ghost use Rattle.fill.specs.Tab.{tab};
 pub fn clear(values: &mut [f64])
     ensures { values.new ≡ tab (λ (k : ℕ). zero64) (length values.old) }
 {
-    for k in 0usize..values.len() {
-        values[k] = 0.0;
-    }
+    values.fill(0.0);
 }

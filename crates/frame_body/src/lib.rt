@@ -2,5 +2,9 @@
 #![tactic(auto)]
 
 mod body;
+mod layout;
+mod state;
 
-pub use body::{decode_body, first_state, layout_in, layout_of, second_state};
+pub use body::Body;
+pub use layout::layout_of;
+pub use state::{first_state, second_state};

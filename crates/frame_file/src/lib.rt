@@ -1,10 +1,12 @@
-// Frame files (docs/FRAME_FILE.md): the numbers, step counts and values in their bytes, and what is said of a frame in words and numbers.
+// Frame files (docs/FRAME_FILE.md): the numbers, step counts and values in their bytes, and what is wrong with a file.
 #![tactic(auto)]
 
+mod frame;
+mod lists;
 mod numbers;
+mod opening;
 
-pub use numbers::{
-    BASE_CHANNELS, CALL, CARRIED, EMPTY, HEAD_BYTES, NEITHER_0_NOR_1, NO_FAULT, Numbers,
-    OPENING_CUT, OTHER_LETTERS, PAYLOAD_BYTES, body_bytes, fault_of, fill_steps, fill_values,
-    number_bytes, numbers_of, opening_fault, version_of,
-};
+pub use frame::{Frame, FrameFault, fault_of};
+pub use lists::{fill_steps, fill_values};
+pub use numbers::{Numbers, numbers_of};
+pub use opening::{Opening, OpeningFault, Version, opening_of, version_of};

@@ -1,1 +1,1 @@
-pub mod SummaryLaws
+pub mod DigitLaws

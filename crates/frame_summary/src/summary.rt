@@ -1,6 +1,6 @@
-// What is said of a channel's values, and a value as a decimal number.
-ghost use Rattle.std.specs.Prelude.{◌≡◌, ◌%◌};
-ghost use Rattle.frame_summary.specs.Summary.{magnitude as Summary·magnitude, peak_of, nonzero_of, whole_of, millionths_of, summary_of, last_digits, hex_digit_ascii};
+// What is said of a channel's values, and a value as millionths.
+ghost use Rattle.std.specs.Prelude.{◌≡◌};
+ghost use Rattle.frame_summary.specs.Summary.{magnitude as Summary·magnitude, larger as Summary·larger, peak_of, nonzero_of, whole_of, millionths_of, summary_of};
 
 use hash::hash_floats;
 
@@ -20,35 +20,25 @@ fn magnitude(x: f64) -> f64
     if x < 0.0 { -x } else { x }
 }
 
+// The larger one; the first where one is no number.
+fn larger(a: f64, b: f64) -> f64
+    ensures { result ≡ Summary·larger a b }
+{
+    if a < b { b } else { a }
+}
+
 // The largest magnitude.
 fn peak(xs: &[f64]) -> f64
     ensures { result ≡ peak_of xs.now }
 {
-    let mut most = 0.0;
-    let mut i: usize = 0;
-    while i < xs.len() {
-        let m = magnitude(xs[i]);
-        if most < m {
-            most = m;
-        }
-        i += 1;
-    }
-    most
+    xs.iter().fold(0.0, |most, x| larger(most, magnitude(*x)))
 }
 
 // How many values are not 0.
 fn nonzero(xs: &[f64]) -> usize
     ensures { result ≡ nonzero_of xs.now }
 {
-    let mut count: usize = 0;
-    let mut i: usize = 0;
-    while i < xs.len() {
-        if xs[i] != 0.0 {
-            count += 1;
-        }
-        i += 1;
-    }
-    count
+    xs.iter().filter(|x| **x != 0.0).count()
 }
 
 pub fn summary_of(xs: &[f64]) -> Summary
@@ -65,12 +55,11 @@ pub fn summary_of(xs: &[f64]) -> Summary
 fn whole_of(x: f64) -> u64
     ensures { result ≡ whole_of x }
 {
-    if x > -1.0 {
-        if x < 18446744073709551616.0 {
-            return std::num::truncating_f64_to_u64(x);
-        }
+    if -1.0 < x && x < 18446744073709551616.0 {
+        std::num::truncating_f64_to_u64(x)
+    } else {
+        0
     }
-    0
 }
 
 // The whole part of a value's magnitude times 1,000,000, the product rounded once.
@@ -78,25 +67,4 @@ pub fn millionths_of(x: f64) -> u64
     ensures { result ≡ millionths_of x }
 {
     whole_of(magnitude(x) * 1000000.0)
-}
-
-// The last six decimal digits.
-pub fn six_digits(n: u64) -> [u8; 6]
-    ensures { result ≡ last_digits 10 6 n }
-{
-    [
-        digit(n / 10 / 10 / 10 / 10 / 10),
-        digit(n / 10 / 10 / 10 / 10),
-        digit(n / 10 / 10 / 10),
-        digit(n / 10 / 10),
-        digit(n / 10),
-        digit(n),
-    ]
-}
-
-// The last decimal digit.
-fn digit(n: u64) -> u8
-    ensures { result ≡ hex_digit_ascii (n % 10) }
-{
-    48 + (n % 10) as u8
 }

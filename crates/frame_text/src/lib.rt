@@ -1,6 +1,6 @@
-// Names of channels and words for refusals, as bytes of text.
+// Names of channels and words for refusals.
 #![tactic(auto)]
 
 mod text;
 
-pub use text::{Text, name_of, words_of};
+pub use text::{name_of, words_of};

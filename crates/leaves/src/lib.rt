@@ -6,17 +6,17 @@ ghost use Rattle.std.specs.Prelude.{◌≡◌, ◌<◌, ◌≤◌, ◌^◌, ltb}
 ghost use Rattle.requant.specs.Requant.{degrouped, excess_of};
 ghost use Rattle.leaves.specs.Leaves.{scalefactor_leaf, requantize_leaf, packed, degroup_leaf, lfe_leaf, coefficient_leaf};
 
-use bitalloc::class_or_zero;
+use bitalloc::class_of_quantization;
 
 #[unsafe(no_mangle)]
 pub extern "C" fn mc_leaf_scalefactor(index: u32) -> f64
     ensures { result ≡ scalefactor_leaf index }
 {
-    if index < 63 {
-        tables::scalefactor(index as usize)
-    } else {
-        0.0
-    }
+    // Rust has no From<u32> for usize
+    tables::scalefactor_table()
+        .get(index as usize)
+        .copied()
+        .unwrap_or(0.0)
 }
 
 // Whether a code is below 2^n.
@@ -32,15 +32,11 @@ fn has_bits(code: u32, n: u32) -> bool
 pub extern "C" fn mc_leaf_requantize_code(nb_steps: u32, code: u32) -> f64
     ensures { result ≡ requantize_leaf nb_steps code }
 {
-    let index = bitalloc::class_index(nb_steps);
-    if bitalloc::CLASS_COUNT <= index {
-        return 0.0;
-    }
-    let class = bitalloc::class_at(index);
-    if has_bits(code, class.bits_per_sample) {
-        requant::requantize_code(class, code)
-    } else {
-        0.0
+    match class_of_quantization(nb_steps) {
+        Some(class) if has_bits(code, class.bits_per_sample) => {
+            requant::requantize_code(class, code)
+        }
+        _ => 0.0,
     }
 }
 
@@ -57,15 +53,11 @@ fn degroup_packed(nb_steps: u32, combined: u32) -> u32
 pub extern "C" fn mc_leaf_degroup(nb_steps: u32, combined: u32) -> u32
     ensures { result ≡ degroup_leaf nb_steps combined }
 {
-    let class = class_or_zero(nb_steps);
-    let grouping = class.grouping;
-    if !grouping {
-        return 0;
-    }
-    if has_bits(combined, class.bits_per_codeword) {
-        degroup_packed(nb_steps, combined)
-    } else {
-        0
+    match class_of_quantization(nb_steps) {
+        Some(class) if class.grouping && has_bits(combined, class.bits_per_codeword) => {
+            degroup_packed(nb_steps, combined)
+        }
+        _ => 0,
     }
 }
 
@@ -73,16 +65,7 @@ pub extern "C" fn mc_leaf_degroup(nb_steps: u32, combined: u32) -> u32
 pub extern "C" fn mc_leaf_requantize_lfe(allocation: u32, scalefactor: u32, code: u32) -> f64
     ensures { result ≡ lfe_leaf allocation scalefactor code }
 {
-    if allocation < 1 {
-        return 0.0;
-    }
-    if 15 < allocation {
-        return 0.0;
-    }
-    if 63 <= scalefactor {
-        return 0.0;
-    }
-    if has_bits(code, allocation + 1) {
+    if (1..=15).contains(&allocation) && scalefactor < 63 && has_bits(code, allocation + 1) {
         requant::lfe_sample(allocation, scalefactor as usize, code)
     } else {
         0.0
@@ -93,9 +76,5 @@ pub extern "C" fn mc_leaf_requantize_lfe(allocation: u32, scalefactor: u32, code
 pub extern "C" fn mc_leaf_pred_coef(byte: u32) -> f64
     ensures { result ≡ coefficient_leaf byte }
 {
-    if byte < 256 {
-        requant::pred_coef(byte as u8)
-    } else {
-        0.0
-    }
+    u8::try_from(byte).map_or(0.0, requant::pred_coef)
 }

@@ -1,5 +1,6 @@
 // Which allocations the head admits; else wrong allocation, refusal 8.
-ghost use Rattle.std.specs.Prelude.{◌≡◌};
+ghost use Rattle.std.specs.Prelude.{◌≡◌, ◌+◌, ◌*◌, ◌/◌, ◌%◌, get_or};
+ghost use Rattle.std.specs.List.{list_all, enumerate_from};
 ghost use Rattle.mc_payload.specs.Places.{own_of};
 ghost use Rattle.mc_payload.specs.Unpack.{allocations_fit};
 ghost use Rattle.mc_allocations.specs.AllocationsBy.{allocation_by};
@@ -7,30 +8,28 @@ ghost use Rattle.mc_allocations.specs.AllocationsBy.{allocation_by};
 use mc_payload::McSettings;
 
 // A transmitted step count beside that of the samples in its place: none is lent where the place has no samples.
+#[tactic(auto, unfolding(crate::specs::AllocationsBy::allocation_by))]
 fn allocation_fits(n: u32, own: u32) -> bool
     ensures { result ≡ allocation_by n own }
 {
-    if n == 0 {
-        return true;
-    }
-    if own == 0 {
-        return false;
-    }
-    bitalloc::class_index(n) < bitalloc::CLASS_COUNT
+    n == 0 || (own != 0 && bitalloc::class_index(n).is_some())
+}
+
+// All step counts, each beside its place's.
+fn all_fit(steps: &[u32; 96], own: &[u32; 96]) -> bool
+    ensures { result ≡ list_all (λ p. allocation_by p.1 (get_or own.now (3 * (p.0 % 32) + p.0 / 32) 0)) (enumerate_from 0 steps.now) }
+{
+    steps
+        .iter()
+        .enumerate()
+        .all(|(k, n)| allocation_fits(*n, own[3 * (k % 32) + k / 32]))
 }
 
 // The allocations by the step counts of the samples in the payload.
-pub fn allocations_fit(s: McSettings, own: &[u32; 96]) -> bool
-    requires { own.now ≡ own_of s }
-    ensures { result ≡ allocations_fit s }
+#[tactic(auto, unfolding(mc_payload::specs::Unpack::allocations_fit))]
+pub fn allocations_fit(s: &McSettings, own: &[u32; 96]) -> bool
+    requires { own.now ≡ own_of s.now }
+    ensures { result ≡ allocations_fit s.now }
 {
-    for k in 0usize..96 {
-        if !allocation_fits(s.nb_steps[k], own[3 * (k % 32) + k / 32]) {
-            return false;
-        }
-    }
-    if s.lfe_allocation == 0 {
-        return true;
-    }
-    s.header.lfe
+    all_fit(&s.nb_steps, own) && (s.lfe_allocation == 0 || s.header.lfe)
 }

@@ -1,5 +1,6 @@
 -- The base frame's subband values as they are lent, and the choice of one of its channels. Definitions only.
 use Rattle.std.specs.Prelude.{cond, List, [], ℕ, eqb, Float}
+use Rattle.mc_base.specs.declared.Base as Lent
 
 -- the base frame's subband values, slot and subband at 32 slot + sb; the right-hand lists are empty for one channel
 pub record Base : Type 0 where
@@ -20,3 +21,7 @@ chosen ch left right = cond (eqb ch 0) left right
 abbrev pub base_from : List Float → List Float → List Float → List Float → Base
 base_from raw_left raw_right scaled_left scaled_right =
     record { raw_left = raw_left; raw_right = raw_right; scaled_left = scaled_left; scaled_right = scaled_right }
+
+-- the same of the struct that lends them
+abbrev pub lent : Lent.Base → Base
+lent base = base_from base.raw.left.now base.raw.right.now base.scaled.left.now base.scaled.right.now

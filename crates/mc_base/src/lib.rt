@@ -1,10 +1,51 @@
-// One of the two lent base channels.
+// The lent base: one or two channels, slot and subband at 32 * slot + subband.
 #![tactic(auto)]
 
-ghost use Rattle.std.specs.Prelude.{◌≡◌, cond, eqb};
+ghost use Rattle.std.specs.Prelude.{◌≡◌, cond, eqb, length};
 ghost use Rattle.mc_base.specs.Base.{chosen};
 
-// The chosen one of two base channels.
+// What belongs to each of two base channels.
+#[derive(Clone, Copy)]
+pub struct Stereo<T> {
+    pub left: T,
+    pub right: T,
+}
+
+// Values by slot and subband; with one base channel the right ones are empty.
+impl<'a> Stereo<&'a [f64]> {
+    pub fn chosen(self, ch: u8) -> &'a [f64]
+        ensures { result.now ≡ chosen ch self.entry.left.now self.entry.right.now }
+    {
+        chosen(ch, self.left, self.right)
+    }
+
+    pub fn second(self, base_channels: u8) -> &'a [f64]
+        ensures { result.now ≡ chosen (cond (eqb base_channels 1) 0 1) self.entry.left.now self.entry.right.now }
+    {
+        second_base(base_channels, self.left, self.right)
+    }
+
+    // The channels as they stand for the first and the second.
+    pub fn both(self, base_channels: u8) -> Stereo<&'a [f64; 1152]>
+        requires { (length self.left.now ≡ 1152) × (length self.right.now ≡ cond (eqb base_channels 1) 0 1152) }
+        ensures left { result.left.now ≡ self.entry.left.now }
+        ensures right { result.right.now ≡ chosen (cond (eqb base_channels 1) 0 1) self.entry.left.now self.entry.right.now }
+    {
+        Stereo {
+            left: self.left.as_array().unwrap(),
+            right: self.second(base_channels).as_array().unwrap(),
+        }
+    }
+}
+
+// The base's values as they were sent, and times their scalefactors.
+#[derive(Clone, Copy)]
+pub struct Base<'a> {
+    pub raw: Stereo<&'a [f64]>,
+    pub scaled: Stereo<&'a [f64]>,
+}
+
+// The chosen one of two base channels. It is chosen by a number, since callers pass any u8.
 pub fn chosen<'a>(ch: u8, left: &'a [f64], right: &'a [f64]) -> &'a [f64]
     ensures { result.now ≡ chosen ch left.now right.now }
 {
@@ -15,8 +56,6 @@ pub fn chosen<'a>(ch: u8, left: &'a [f64], right: &'a [f64]) -> &'a [f64]
 pub fn second_base<'a>(base_channels: u8, left: &'a [f64], right: &'a [f64]) -> &'a [f64]
     ensures { result.now ≡ chosen (cond (eqb base_channels 1) 0 1) left.now right.now }
 {
-    if base_channels == 1 {
-        return chosen(0, left, right);
-    }
-    chosen(1, left, right)
+    let ch = if base_channels == 1 { 0 } else { 1 };
+    chosen(ch, left, right)
 }

@@ -1,7 +1,9 @@
 -- Each way through a frame from its payload on leaves what the definition says.
-use Rattle.std.specs.Prelude.{◌≡◌, Bool, not, cond, List, ℕ, ◌+◌, ◌*◌, ◌≤◌, Float, length}
+use Rattle.std.specs.Prelude.{◌≡◌, Bool, not, cond, List, ℕ, ◌+◌, ◌*◌, ◌≤◌, Float, length, Result, Ok, Err}
+use Rattle.std.specs.Result.{IsErrAnd}
+use Rattle.std.proofs.lemmas.Result.{err_from_is_err_and}
 use Rattle.std.proofs.Math.Path.{sym}
-use Rattle.std.proofs.Common.{◌∙◌, arith, eq-eqb, ne_eqb, Fits}
+use Rattle.std.proofs.Common.{arith, Fits}
 use Rattle.std.proofs.Math.Bool.{true, false}
 use Rattle.std.proofs.lemmas.Bool.{not-true, not-false}
 use Rattle.std.specs.Int.{w8}
@@ -14,11 +16,11 @@ use Rattle.mc_error.specs.declared.McError.{McError}
 use Rattle.mc_error.specs.declared.McError.TheVariants.{ConfigChanged}
 use Rattle.mc_payload.specs.declared.McSettings.{McSettings}
 use Rattle.mc_codes.specs.declared.payload.PayloadCodes.{PayloadCodes}
-use Rattle.mc_codes.specs.Outcome
+use Rattle.mc_codes.specs.Outcome.{codes_of}
 use Rattle.mc_payload.specs.Payload.{Codes}
-use Rattle.mc_unpack.specs.Settled.{settled_of, Numbered}
+use Rattle.mc_unpack.specs.Settled.{settled_of}
 use Rattle.mc_unpack.specs.Writable.{Writable}
-use Rattle.mc_unpack.proofs.SettledLaws.{settled-numbered, settled-writable}
+use Rattle.mc_unpack.proofs.SettledLaws.{settled-writable}
 use Rattle.mc_payload.specs.Record.{raw_of, lfe_of, excesses_of, record_of, excess_codes}
 use Rattle.mc_payload.specs.Unpack.{allocations_fit, payload_of, Loan, settings_of}
 use Rattle.mc_payload.proofs.Demand3.Widths.{codes-fit}
@@ -26,13 +28,13 @@ use Rattle.mc_base.specs.Base.{Base, scaled_base}
 use Rattle.mc_output.specs.Output.{channels, work_of, output_of}
 use Rattle.mc_history.specs.History.{history_at, history_of}
 use Rattle.mc_finish.specs.Finish.{BaseFits}
-use Rattle.mc_state.specs.declared.McAnswer.TheVariants.{Accepted, Refused}
+use Rattle.mc_state.specs.declared.Accepted.{Accepted}
 use Rattle.mc_state.specs.declared.McDecodeState.{McDecodeState}
 use Rattle.mc_state.specs.Held.{channels_by, layout_for, follows_by, follows, layout_after}
 use Rattle.mc_state.proofs.HeldLaws.{layout-small}
 use Rattle.mc_state.specs.Desk.{tallied}
 use Rattle.mc_state.specs.Frame.{Buffers, verdict_unpacked, answer_of, written, buffers_of, state_of, after_unpacked}
-use Rattle.mc_state.specs.Answer.{buffers_from, after_of}
+use Rattle.mc_state.specs.Answer.{buffers_from, after_by}
 use Rattle.mc_state.specs.Long.{Long, Delayed}
 use Rattle.mc_body.proofs.WriteLaws.{delayed}
 
@@ -94,54 +96,40 @@ written_is s c base history raw work output lfe er ew eo el = rw (er, eo, ew, el
 
 -- ---- what a payload was settled as
 
-module _ (s : McSettings) (payload : List ℕ) (bits : ℕ) (codes : PayloadCodes) (o : Outcome.outcome_of codes ≡ settled_of s payload bits) where
-  module _ (z : codes.cursor.err ≡ 0 → ⊥) where
-    is-refused : settled_of s payload bits ≡ refused (plain codes.cursor.err)
-    unfolding Outcome.outcome_of
-    is-refused = sym o ∙ rw (ne_eqb codes.cursor.err 0 z)
+module _ (s : McSettings) (payload : List ℕ) (bits : ℕ) (codes : PayloadCodes) (o : accepted (codes_of codes) codes.bits ≡ settled_of s payload bits) where
+  pub writable : Writable s (codes_of codes)
+  writable = settled-writable s payload bits (codes_of codes) codes.bits (sym o)
 
-    pub refused-number : Numbered codes.cursor.err
-    refused-number = settled-numbered s payload bits codes.cursor.err is-refused
-
-  module _ (z : codes.cursor.err ≡ 0) where
-    is-accepted : settled_of s payload bits ≡ accepted (Outcome.codes_of codes) codes.cursor.at
-    unfolding Outcome.outcome_of
-    is-accepted = sym o ∙ rw (eq-eqb codes.cursor.err 0 z)
-
-    pub writable : Writable s (Outcome.codes_of codes)
-    writable = settled-writable s payload bits (Outcome.codes_of codes) codes.cursor.at is-accepted
-
-    pub delays-small : Delayed codes.predictors
-    unfolding settled_of
-    delays-small =
-        delayed s (Outcome.codes_of codes)
-        (accepted-yields (codes-fit s) payload bits 0 (Outcome.codes_of codes) codes.cursor.at
-        (settled-ran s payload bits (Outcome.codes_of codes) codes.cursor.at (allocations_fit s) is-accepted))
+  pub delays-small : Delayed codes.predictors
+  unfolding settled_of
+  delays-small =
+      delayed s (codes_of codes)
+      (accepted-yields (codes-fit s) payload bits 0 (codes_of codes) codes.bits
+      (settled-ran s payload bits (codes_of codes) codes.bits (allocations_fit s) (sym o)))
 
 -- ---- the three ways to end
 
-module _ (st : McDecodeState) (desk head_used : ℕ) (base : Base) (w : Buffers) (s : McSettings) (payload : List ℕ) (bits : ℕ) (codes : PayloadCodes)
-    (o : Outcome.outcome_of codes ≡ settled_of s payload bits) (s' : McSettings) (es : s ≡ s')
-  where
-    pub after-refused : (codes.cursor.err ≡ 0 → ⊥) → (e : McError) → refusal_of e ≡ plain codes.cursor.err
-        → after_of (record { answer = Refused e; state = st }) w ≡ after_unpacked st desk s' head_used payload bits base w
-    unfolding after_unpacked verdict_unpacked answer_of buffers_of state_of
-    after-refused z e ee = rw (← es, is-refused s payload bits codes o z, ee)
+module _ (st : McDecodeState) (desk head_used : ℕ) (base : Base) (w : Buffers) (s : McSettings) (payload : List ℕ) (bits : ℕ) (s' : McSettings) (es : s ≡ s') where
+  -- what `?` returns where the payload was refused
+  pub after-refused : (e : McError) → refused (refusal_of e) ≡ settled_of s payload bits → (x : Result Accepted McError) → IsErrAnd x (λ y. y ≡ e)
+      → after_by x st w ≡ after_unpacked st desk s' head_used payload bits base w
+  unfolding after_unpacked verdict_unpacked answer_of buffers_of state_of
+  after-refused e o x i = let p = err_from_is_err_and x i in rw (← es, ← o, p.1, p.2)
 
-    module _ (z : codes.cursor.err ≡ 0) (n : ℕ) (en : n ≡ channels s) (own : ℕ) (el : own ≡ layout_for s) (h : List Float) (eh : h ≡ history_of s base) (b : Bool)
-        (eb : b ≡ follows_by s.reading st.layout_len st.layout n own) where
-      pub after-changed : not b ≡ true
-          → after_of (record { answer = Refused ConfigChanged; state = record { pred_hist = h; layout_len = st.layout_len; layout = st.layout; accepted = st.accepted } }) w
-          ≡ after_unpacked st desk s' head_used payload bits base w
-      unfolding after_unpacked verdict_unpacked answer_of buffers_of state_of follows
-      after-changed t =
-          let f : follows_by s.reading st.layout_len st.layout (channels s) (layout_for s) ≡ false = rw (← en, ← el, ← eb) (not-true b t) in
-          rw (← es, is-accepted s payload bits codes o z, f, eh)
+  module _ (codes : PayloadCodes) (o : accepted (codes_of codes) codes.bits ≡ settled_of s payload bits) (n : ℕ) (en : n ≡ channels s) (own : ℕ) (el : own ≡ layout_for s) (h : List Float) (eh : h ≡ history_of s base) (b : Bool)
+      (eb : b ≡ follows_by s.reading st.layout_len st.layout n own) where
+    pub after-changed : not b ≡ true
+        → after_by (Err ConfigChanged) (record { pred_hist = h; layout_len = st.layout_len; layout = st.layout; accepted = st.accepted }) w
+        ≡ after_unpacked st desk s' head_used payload bits base w
+    unfolding after_unpacked verdict_unpacked answer_of buffers_of state_of follows
+    after-changed t =
+        let f : follows_by s.reading st.layout_len st.layout (channels s) (layout_for s) ≡ false = rw (← en, ← el, ← eb) (not-true b t) in
+        rw (← es, ← o, f, eh)
 
-      pub after-accepted : not b ≡ false → (k : ℕ) → k ≡ layout_after s.reading st.layout own → (a : List ℕ) → a ≡ tallied desk st.accepted → (count : ℕ) → count ≡ excess_codes (excesses_of s (Outcome.codes_of codes)) → (w' : Buffers) → w' ≡ written s (Outcome.codes_of codes) base st.pred_hist
-          → after_of (record { answer = Accepted head_used codes.cursor.at count; state = record { pred_hist = h; layout_len = n; layout = k; accepted = a } }) w'
-          ≡ after_unpacked st desk s' head_used payload bits base w
-      unfolding after_unpacked verdict_unpacked answer_of buffers_of state_of follows
-      after-accepted t k ek a ea count ec w' ew =
-          let f : follows_by s.reading st.layout_len st.layout (channels s) (layout_for s) ≡ true = rw (← en, ← el, ← eb) (not-false b t) in
-          rw (← es, is-accepted s payload bits codes o z, f, eh, ek, en, el, ea, ec, ew)
+    pub after-accepted : not b ≡ false → (k : ℕ) → k ≡ layout_after s.reading st.layout own → (a : List ℕ) → a ≡ tallied desk st.accepted → (count : ℕ) → count ≡ excess_codes (excesses_of s (codes_of codes)) → (w' : Buffers) → w' ≡ written s (codes_of codes) base st.pred_hist
+        → after_by (Ok (record { head_bits = head_used; payload_bits = codes.bits; excess_codes = count })) (record { pred_hist = h; layout_len = n; layout = k; accepted = a }) w'
+        ≡ after_unpacked st desk s' head_used payload bits base w
+    unfolding after_unpacked verdict_unpacked answer_of buffers_of state_of follows
+    after-accepted t k ek a ea count ec w' ew =
+        let f : follows_by s.reading st.layout_len st.layout (channels s) (layout_for s) ≡ true = rw (← en, ← el, ← eb) (not-false b t) in
+        rw (← es, ← o, f, eh, ek, en, el, ea, ec, ew)

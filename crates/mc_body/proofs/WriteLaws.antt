@@ -1,5 +1,5 @@
 -- What an accepted payload brings for the writers of its frame, and that they write what the definition says.
-use Rattle.std.specs.Prelude.{◌≡◌, refl, true, ℕ, ◌+◌, ◌*◌, ◌%◌, ◌^◌, ◌≤◌, ◌<◌, ltb, Float, get_or}
+use Rattle.std.specs.Prelude.{◌≡◌, refl, true, ℕ, ◌+◌, ◌*◌, ◌%◌, ◌^◌, ◌≤◌, ◌<◌, ltb, Float, get_or, length}
 use Rattle.std.proofs.Math.Path.{ap}
 use Rattle.std.proofs.Common.{◌∙◌, arith}
 use mathlib.Core.List.{List, []}
@@ -62,6 +62,10 @@ module _ (s : McSettings) (p : McPayload) (e : p.places ≡ places_of s) where
         listed = λ i h. w.factors.1 i;
         small = λ g px hg hp. rw (ed, get_or-tab {A = List ℕ} [] _ 8 g hg, get_or-tab {A = ℕ} 0 _ 6 px hp) (z.small (6 * g + px) (omega arith));
       }
+
+pub raw-long : (s : McSettings) (c : Codes) {raw : List Float} → raw ≡ raw_of s c → length raw ≡ 3456
+unfolding raw_of
+raw-long s c e = rw e (length-tab _ 3456)
 
 -- the LFE samples and the excesses take no part in work
 work-without : (s : McSettings) (r : Record) (base : Base) (history : List Float)

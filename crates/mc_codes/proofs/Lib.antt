@@ -1,6 +1,5 @@
-pub mod ScfsiRead
-pub mod FactorsRead
-pub mod PredictorsRead
-pub mod GranulesRead
+pub mod PartLaws
+pub mod FactorLaws
 pub mod ClassLaws
-pub mod PayloadRead
+pub mod GranuleLaws
+pub mod PayloadLaws

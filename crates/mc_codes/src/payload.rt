@@ -1,40 +1,33 @@
-// The codes of a payload, part by part (ISO/IEC 13818-3, 2.5.1.17). Each part reads from a cursor that keeps its first refusal.
+// The codes of a payload, part by part (ISO/IEC 13818-3, 2.5.1.17).
 ghost use Rattle.std.specs.Prelude.{◌≡◌, ◌≤◌};
 ghost use Rattle.bits.specs.Syntax.{run};
-ghost use Rattle.cursor.specs.Ran.{Ran};
+ghost use Rattle.bit_reader.specs.Reads.{Reads};
 ghost use Rattle.mc_payload.specs.Payload.{scfsi, payload};
 ghost use Rattle.mc_codes.specs.Outcome.{outcome_of};
 
 use crate::granules::read_granules;
 use crate::predictors::read_predictors;
 use crate::scalefactors::{read_lf_scalefactor, read_scalefactors};
-use cursor::Cursor;
+use bit_reader::BitReader;
+use mc_error::McError;
 
-// The cursor after the scfsi codes, and the codes by place; 0 where there is none.
-#[derive(Clone, Copy)]
-pub struct ScfsiCodes {
-    pub cursor: Cursor,
-    pub codes: [u8; 96],
-}
-
-pub fn read_scfsi(bytes: &[u8], limit: usize, c: Cursor, steps: &[u32; 96]) -> ScfsiCodes
-    ensures { Ran bytes.now limit c (scfsi steps.now) result.cursor result.codes }
+// The scfsi codes by place; 0 where there is none.
+pub fn read_scfsi(reader: &mut BitReader<'_>, steps: &[u32; 96]) -> Result<[u8; 96], McError>
+    ensures { Reads reader.old (scfsi steps.now) result reader.new }
 {
-    let mut cursor = c;
     let mut codes = [0u8; 96];
-    for i in 0usize..96 {
-        if steps[i] != 0 {
-            cursor = cursor::read(bytes, limit, cursor, 2);
-            codes[i] = cursor.value as u8;
+    for (i, n) in steps.iter().enumerate() {
+        if *n != 0 {
+            codes[i] = reader.read(2)? as u8;
         }
     }
-    ScfsiCodes { cursor, codes }
+    Ok(codes)
 }
 
-// The cursor after the whole payload, and its codes.
-#[derive(Clone, Copy)]
+// The codes of a whole payload, and the bits that it uses.
+#[derive(Clone, Copy, Default)]
 pub struct PayloadCodes {
-    pub cursor: Cursor,
+    pub bits: usize,
     pub scfsi: [u8; 96],
     pub predictors: [u8; 192],
     pub lf_scalefactor: u8,
@@ -42,7 +35,8 @@ pub struct PayloadCodes {
     pub granules: [u16; 3468],
 }
 
-// The payload by the Layer III flag, the LFE allocation, the coefficient counts, the step counts, and those of samples in the payload.
+// The payload by the Layer III flag, the LFE allocation, the coefficient counts, the step counts, and those of samples in the payload. Its
+// codes are read into `codes`, since answered by value they would be cleared and copied several times in each frame.
 pub fn read_payload<'a>(
     bytes: &[u8],
     limit: usize,
@@ -51,32 +45,20 @@ pub fn read_payload<'a>(
     predsi: &[u8; 56],
     steps: &'a [u32; 96],
     own: &'a [u32; 96],
-) -> PayloadCodes
+    codes: &mut PayloadCodes,
+) -> Result<(), McError>
     requires { lfe ≤ 15 }
-    ensures { run (payload layer3 lfe predsi.now steps.now own.now) bytes.now limit 0 ≡ outcome_of result }
+    ensures { run (payload layer3 lfe predsi.now steps.now own.now) bytes.now limit 0 ≡ outcome_of result codes.new }
 {
-    let start = Cursor {
-        err: 0,
-        at: 0,
-        value: 0,
-    };
-    let first = read_scfsi(bytes, limit, start, steps);
-    let scfsi = first.codes;
-    let checked = cursor::refuse_if(first.cursor, layer3, 3);
-    let second = read_predictors(bytes, limit, checked, predsi);
-    let predictors = second.codes;
-    let lf = read_lf_scalefactor(bytes, limit, second.cursor, lfe);
-    let third = read_scalefactors(bytes, limit, lf, steps, &scfsi);
-    let scalefactors = third.codes;
-    let last = read_granules(bytes, limit, third.cursor, lfe, own);
-    let cursor = last.cursor;
-    let granules = last.codes;
-    PayloadCodes {
-        cursor,
-        scfsi,
-        predictors,
-        lf_scalefactor: lf.value as u8,
-        scalefactors,
-        granules,
+    let mut reader = BitReader::new(bytes, limit, 0);
+    codes.scfsi = read_scfsi(&mut reader, steps)?;
+    if layer3 {
+        return Err(McError::MlLayer3Unsupported);
     }
+    codes.predictors = read_predictors(&mut reader, predsi)?;
+    codes.lf_scalefactor = read_lf_scalefactor(&mut reader, lfe)?;
+    codes.scalefactors = read_scalefactors(&mut reader, steps, &codes.scfsi)?;
+    read_granules(&mut reader, lfe, own, &mut codes.granules)?;
+    codes.bits = reader.at;
+    Ok(())
 }

@@ -15,29 +15,26 @@ impl McConfig {
 
     pub const MAX_NMCH: usize = 3;
 
+    #[tactic(auto, unfolding(crate::specs::Config::config_of))]
     pub fn from_header(h: McHeader, base_channels: u8) -> McConfig
         ensures { result ≡ config_of h base_channels }
     {
+        let second_stereo = h.surround == 3;
         let front = front_of(base_channels, h.centre);
-        let mut surround = h.surround;
-        let mut second_channels = 0;
-        if h.surround == 3 {
-            surround = 0;
-            second_channels = 2;
-        }
+        let surround = if second_stereo { 0 } else { h.surround };
         let widths = widths_of(pair_of(front, surround));
         McConfig {
             front,
             surround,
-            second_stereo: h.surround == 3,
-            nmch: widths.0 + second_channels,
-            tc_allocation_bits: widths.1,
-            dyn_cross_bits: widths.2,
+            second_stereo,
+            nmch: widths.main + if second_stereo { 2 } else { 0 },
+            tc_allocation_bits: widths.tc_allocation,
+            dyn_cross_bits: widths.dyn_cross,
             phantom_centre: h.centre == 3,
         }
     }
 
-    // Front and surround as one number: 3/2 is 32.
+    // Front and surround as one number: 3/2 is 32. It stays one, since those who go by it take any u32.
     pub fn pair(self) -> u32
         ensures { result ≡ pair_of self }
     {
@@ -48,18 +45,16 @@ impl McConfig {
     pub fn main_nmch(self) -> usize
         ensures { result ≡ main_of (pair_of self) }
     {
-        widths_of(self.pair()).0
+        widths_of(self.pair()).main
     }
 }
 
 fn front_of(base_channels: u8, centre: u8) -> u8
     ensures { result ≡ front_of base_channels centre }
 {
-    if base_channels == 1 {
-        return 1;
-    }
-    match centre {
-        1 | 3 => 3,
+    match (base_channels, centre) {
+        (1, _) => 1,
+        (_, 1 | 3) => 3,
         _ => 2,
     }
 }
@@ -70,18 +65,27 @@ fn pair_of(front: u8, surround: u8) -> u32
     10 * (front as u32) + surround as u32
 }
 
-// Main channels, bits of a tc_allocation and bits of a dyn_cross_mode.
+// What goes by the pair: main channels, and the bits of a tc_allocation and of a dyn_cross_mode.
 #[derive(Clone, Copy)]
-struct Widths(usize, usize, usize);
+struct Widths {
+    main: usize,
+    tc_allocation: usize,
+    dyn_cross: usize,
+}
 
 fn widths_of(pair: u32) -> Widths
-    ensures { (result.0 ≡ main_of pair) × (result.1 ≡ tc_bits_of pair) × (result.2 ≡ cross_bits_of pair) }
+    ensures { (result.main ≡ main_of pair) × (result.tc_allocation ≡ tc_bits_of pair) × (result.dyn_cross ≡ cross_bits_of pair) }
 {
-    match pair {
-        32 => Widths(3, 3, 4),
-        31 => Widths(2, 3, 3),
-        30 | 21 => Widths(1, 2, 1),
-        22 => Widths(2, 2, 3),
-        _ => Widths(0, 0, 0),
+    let (main, tc_allocation, dyn_cross) = match pair {
+        32 => (3, 3, 4),
+        31 => (2, 3, 3),
+        30 | 21 => (1, 2, 1),
+        22 => (2, 2, 3),
+        _ => (0, 0, 0),
+    };
+    Widths {
+        main,
+        tc_allocation,
+        dyn_cross,
     }
 }

@@ -1,11 +1,10 @@
 // The output channels of a configuration, in order (ISO/IEC 13818-3, 2.5.2.15).
-ghost use Rattle.std.specs.Prelude.{◌≡◌, List, [], ◌∷◌, ◌++◌, ℕ, ◌<◌};
-ghost use Rattle.mc_config.specs.Config.{front_channels};
-ghost use Rattle.mc_config.specs.Records.{laid, layout_record};
+ghost use Rattle.std.specs.Prelude.{◌≡◌};
+ghost use Rattle.mc_config.specs.Config.{layout_of};
 
 use crate::McConfig;
 
-// The audio channels by number.
+// The audio channels by number. They stay numbers, since `fallback_base_channel` and `name_of` take any u8 there.
 pub const LEFT: u8 = 0;
 
 pub const RIGHT: u8 = 1;
@@ -22,62 +21,25 @@ pub const SECOND_LEFT: u8 = 6;
 
 pub const SECOND_RIGHT: u8 = 7;
 
-// The first `count` entries are the channels.
-#[derive(Clone, Copy)]
-pub struct Layout {
-    pub count: usize,
-    pub channels: [u8; McConfig::MAX_CHANNELS],
-}
-
-impl Layout {
-    fn push(self, channel: u8) -> Layout
-        requires { self.count < 5 }
-        ensures { (xs : List ℕ) → self ≡ laid xs → result ≡ laid (xs ++ channel ∷ []) }
-    {
-        let at = self.count;
-        let mut out = self;
-        out.channels[at] = channel;
-        out.count = at + 1;
-        out
-    }
-}
-
 impl McConfig {
     // Front, then surround or the second stereo programme.
-    pub fn layout(self) -> Layout
-        ensures { result ≡ layout_record self }
+    #[tactic(auto, unfolding(crate::specs::Config::layout_of))]
+    pub fn layout(self) -> &'static [u8]
+        ensures { result.now ≡ layout_of self }
     {
-        let out = front_layout(self.front);
-        let surround = self.surround;
-        match surround {
-            2 => out.push(LEFT_SURROUND).push(RIGHT_SURROUND),
-            1 => out.push(MONO_SURROUND),
-            _ => {
-                if self.second_stereo {
-                    out.push(SECOND_LEFT).push(SECOND_RIGHT)
-                } else {
-                    out
-                }
-            }
+        match (self.front, self.surround, self.second_stereo) {
+            (1, 2, _) => &[LEFT, LEFT_SURROUND, RIGHT_SURROUND],
+            (1, 1, _) => &[LEFT, MONO_SURROUND],
+            (1, _, true) => &[LEFT, SECOND_LEFT, SECOND_RIGHT],
+            (1, _, false) => &[LEFT],
+            (3, 2, _) => &[LEFT, RIGHT, CENTRE, LEFT_SURROUND, RIGHT_SURROUND],
+            (3, 1, _) => &[LEFT, RIGHT, CENTRE, MONO_SURROUND],
+            (3, _, true) => &[LEFT, RIGHT, CENTRE, SECOND_LEFT, SECOND_RIGHT],
+            (3, _, false) => &[LEFT, RIGHT, CENTRE],
+            (_, 2, _) => &[LEFT, RIGHT, LEFT_SURROUND, RIGHT_SURROUND],
+            (_, 1, _) => &[LEFT, RIGHT, MONO_SURROUND],
+            (_, _, true) => &[LEFT, RIGHT, SECOND_LEFT, SECOND_RIGHT],
+            (_, _, false) => &[LEFT, RIGHT],
         }
-    }
-}
-
-fn front_layout(front: u8) -> Layout
-    ensures { result ≡ laid (front_channels front) }
-{
-    match front {
-        1 => Layout {
-            count: 1,
-            channels: [LEFT, 0, 0, 0, 0],
-        },
-        3 => Layout {
-            count: 3,
-            channels: [LEFT, RIGHT, CENTRE, 0, 0],
-        },
-        _ => Layout {
-            count: 2,
-            channels: [LEFT, RIGHT, 0, 0, 0],
-        },
     }
 }

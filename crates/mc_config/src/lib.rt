@@ -6,8 +6,7 @@ mod layout;
 mod reading;
 
 pub use layout::{
-    CENTRE, LEFT, LEFT_SURROUND, Layout, MONO_SURROUND, RIGHT, RIGHT_SURROUND, SECOND_LEFT,
-    SECOND_RIGHT,
+    CENTRE, LEFT, LEFT_SURROUND, MONO_SURROUND, RIGHT, RIGHT_SURROUND, SECOND_LEFT, SECOND_RIGHT,
 };
 pub use reading::{centre_stops, phantom_of, reading_fits};
 

@@ -1,18 +1,37 @@
 -- Laws of dynamic crosstalk: what holds of the sources, and of the predicted channels, for every configuration and code.
-use Rattle.std.specs.Prelude.{◌≡◌, refl, Bool, true, false, List, [], map, ℕ, ◌*◌, ◌≤◌, ◌<◌, T as Holds, eqb, ltb, leb, length, get_or}
+use Rattle.std.specs.Prelude.{◌≡◌, refl, Bool, true, false, List, [], map, ℕ, ◌*◌, ◌≤◌, ◌<◌, T as Holds, eqb, ltb, leb, length, get_or, Option, Some, None, is_some, option_map, unwrap_or}
 use Rattle.std.proofs.Math.Bool.{cond}
-use Rattle.std.proofs.Common.{zero-le, arith, ltb-true, ltb-false, lt-ltb, leb→le, le→leb}
+use Rattle.std.proofs.Common.{Bor, sym, ap, ◌∙◌, zero-le, arith, ltb-true, ltb-false, lt-ltb, leb→le, le→leb}
 use Rattle.std.proofs.Math.Dec.{eqb→eq, ltb→lt}
 use Rattle.std.proofs.Math.ListN.{get_or-map, get_or-eq_default}
 use Rattle.mc_config.specs.Config.{by_pair, main_of}
 use Rattle.mc_config.proofs.CaseLaws.{Other, by_pair-elim, by_pair-other, cond-split}
 use Rattle.mc_config.proofs.ConfigLaws.{main-other, main-most}
 use Rattle.mc_crosstalk.specs.Crosstalk.{T, sources0, sources1, sources2, sources3, source_rows, listed, sources_of, source_of, predicted_in, predicted_of, predictors_of}
+use Rattle.mc_config.proofs.RowsLaws.{default-row}
 use Rattle.mc_config.proofs.TableLaws.{every, every-at, every-get_or, empty-at}
 
 pub sources-unlisted : (pair mode : ℕ) → listed pair mode ≡ false → sources_of pair mode ≡ []
 unfolding listed sources_of
 sources-unlisted pair mode l = get_or-eq_default (source_rows pair) [] (ltb-false mode (length (source_rows pair)) l)
+
+-- whether there is an answer is whether the code is listed
+pub listed-answered : {X : Type 0} (list : X → List ℕ) (r : Option X) (pair mode : ℕ) → option_map list r ≡ cond (listed pair mode) (Some (sources_of pair mode)) None → is_some r ≡ listed pair mode
+listed-answered {X} list r pair mode e = sym (mapped r) ∙ ap is_some e ∙ told (listed pair mode)
+  where
+    mapped : (r : Option X) → is_some (option_map list r) ≡ is_some r
+    mapped None = refl
+    mapped (Some x) = refl
+
+    told : (b : Bool) → is_some (cond b (Some (sources_of pair mode)) None) ≡ b
+    told true = refl
+    told false = refl
+
+-- and with no entries in place of none it is the sources
+pub sources-answered : (pair mode : ℕ) (r : Option (Bor (List ℕ))) → option_map (λ row. row.now) r ≡ cond (listed pair mode) (Some (sources_of pair mode)) None
+    → (row none : Bor (List ℕ)) → row ≡ unwrap_or r none → none.now ≡ [] → row.now ≡ sources_of pair mode
+sources-answered pair mode r e row none er en =
+    ap (λ (row : Bor (List ℕ)). row.now) er ∙ default-row r none ∙ rw (e, en) (cond-split (λ o. unwrap_or o [] ≡ sources_of pair mode) (listed pair mode) (λ l. refl) (λ l. sym (sources-unlisted pair mode l)))
 
 -- without a main channel there are no sources, listed or not
 pub sources-other : {pair : ℕ} (mode : ℕ) → Other pair → sources_of pair mode ≡ []

@@ -1,3 +1,2 @@
 pub mod Crosstalk
 pub mod Predictors
-pub mod CrosstalkRecords

@@ -3,4 +3,4 @@
 
 mod crosstalk;
 
-pub use crosstalk::{FROM_BASE, Sources, TRANSMITTED, dyn_cross_sources};
+pub use crosstalk::{FROM_BASE, TRANSMITTED, dyn_cross_sources};

@@ -1,5 +1,7 @@
 -- What a tested loan brings, and that each way through a frame call leaves what the definition says.
-use Rattle.std.specs.Prelude.{◌≡◌, Bool, true, false, not, ℕ, ◌≤◌, ◌<◌, eqb, leb, length}
+use Rattle.std.specs.Prelude.{◌≡◌, Bool, true, false, not, ℕ, ◌≤◌, ◌<◌, eqb, leb, length, Result, Ok, Err}
+use Rattle.std.specs.Result.{IsErrAnd}
+use Rattle.std.proofs.lemmas.Result.{err_from_is_err_and}
 use Rattle.std.proofs.Common.{sym, ◌∙◌}
 use borrow.Author.Tests.{eqb-true, leb-true, le-leb, lt-leb, not-true, not-false}
 use Rattle.mc_error.specs.declared.McError.{McError}
@@ -9,18 +11,17 @@ use Rattle.mc_config.specs.Reading.{reading_fits}
 use Rattle.mc_fields.proofs.HeadYields.{header-fits}
 use Rattle.mc_fields.specs.Lent.{string_fits, base_fits, head_of}
 use Rattle.mc_fields.proofs.LentLaws.{lent-accepted}
-use Rattle.mc_head.specs.declared.HeadAnswer.TheVariants.{Accepted as HeadAccepted, Refused as HeadRefused}
 use Rattle.mc_head.specs.declared.McHead.{McHead}
 use Rattle.mc_payload.specs.Unpack.{rate_fits, loan_fits, settings_of, loan_by}
 use Rattle.mc_payload.proofs.Demand3.Accepted.{both_true}
-use Rattle.mc_state.specs.declared.McAnswer.TheVariants.{Refused}
+use Rattle.mc_state.specs.declared.Accepted.{Accepted}
 use Rattle.mc_state.specs.declared.McDecodeState.{McDecodeState}
 use Rattle.mc_state.specs.Frame.{Lent, Buffers, After, right_length, values_long, room_fits, lent_by, lent_fits, values_fit, verdict_head, verdict_of, answer_of, buffers_of, state_of, after_unpacked, frame_of}
-use Rattle.mc_state.specs.Answer.{after_of}
+use Rattle.mc_state.specs.Answer.{after_by}
 use Rattle.mc_state.specs.Long.{Long}
 
 module _ (l : Lent) (w : Buffers) (st : McDecodeState) (a : Bool) (ea : a ≡ lent_fits l w st) where
-  pub after-lent : not a ≡ true → after_of (record { answer = Refused InvalidArgument; state = st }) w ≡ frame_of l w st
+  pub after-lent : not a ≡ true → after_by (Err InvalidArgument) st w ≡ frame_of l w st
   unfolding frame_of verdict_of answer_of buffers_of state_of
   after-lent t = rw (← ea, not-true a t)
 
@@ -69,27 +70,29 @@ module _ (l : Lent) (w : Buffers) (st : McDecodeState) (a : Bool) (ea : a ≡ le
           lfe = eqb-true _ 12 g.1;
         }
 
-    pub after-desk : 7 < l.desk → after_of (record { answer = Refused InvalidDesk; state = st }) w ≡ frame_of l w st
+    pub after-desk : 7 < l.desk → after_by (Err InvalidDesk) st w ≡ frame_of l w st
     unfolding frame_of verdict_of answer_of buffers_of state_of
     after-desk h = rw (← ea, not-false a ta, lt-leb l.desk 7 h)
 
     module _ (low : l.desk ≤ 7) (b : Bool) (eb : b ≡ values_fit l.base st.pred_hist) where
-      pub after-values : not b ≡ true → after_of (record { answer = Refused ValueOutOfRange; state = st }) w ≡ frame_of l w st
+      pub after-values : not b ≡ true → after_by (Err ValueOutOfRange) st w ≡ frame_of l w st
       unfolding frame_of verdict_of answer_of buffers_of state_of
       after-values t = rw (← ea, not-false a ta, le-leb l.desk 7 low, ← eb, not-true b t)
 
-      module _ (tb : not b ≡ false) (h : McHead) (eh : Answer.outcome_of h ≡ head_of l.reading l.head l.head_bits l.base_channels) where
-        pub after-head : (e : McError) → h.answer ≡ HeadRefused e → after_of (record { answer = Refused e; state = st }) w ≡ frame_of l w st
+      module _ (tb : not b ≡ false) (r : Result McHead McError) (er : Answer.outcome_of r ≡ head_of l.reading l.head l.head_bits l.base_channels) where
+        -- what `?` returns of a refused head
+        pub after-head : (e : McError) → r ≡ Err e → (x : Result Accepted McError) → IsErrAnd x (λ y. y ≡ e) → after_by x st w ≡ frame_of l w st
         unfolding frame_of verdict_of verdict_head answer_of buffers_of state_of
-        after-head e q = rw (← ea, not-false a ta, le-leb l.desk 7 low, ← eb, not-false b tb, ← eh, q)
+        after-head e q x i = let p = err_from_is_err_and x i in rw (p.1, p.2, ← ea, not-false a ta, le-leb l.desk 7 low, ← eb, not-false b tb, ← er, q)
 
-        pub surround-low : (used : ℕ) → h.answer ≡ HeadAccepted used → h.header.surround ≤ 3
-        surround-low used q =
-            (header-fits l.reading l.base_channels l.head l.head_bits 0 h.header h.check_word h.status used
-            (lent-accepted l.reading l.head l.head_bits l.base_channels (h.header, (h.check_word, h.status)) used (sym eh ∙ rw q))).surround
+        module _ (h : McHead) (q : r ≡ Ok h) where
+          pub surround-low : h.header.surround ≤ 3
+          surround-low =
+              (header-fits l.reading l.base_channels l.head l.head_bits 0 h.header h.check_word h.status h.used
+              (lent-accepted l.reading l.head l.head_bits l.base_channels (h.header, (h.check_word, h.status)) h.used (sym er ∙ rw q))).surround
 
-        pub after-payload : (used : ℕ) → h.answer ≡ HeadAccepted used → (r : After)
-            → r ≡ after_unpacked st l.desk (settings_of (loan_by l.reading l.rate l.base_channels h.header h.status l.lfe l.steps l.base_steps)) used l.payload l.payload_bits l.base w
-            → r ≡ frame_of l w st
-        unfolding frame_of verdict_of verdict_head after_unpacked
-        after-payload used q r e = e ∙ rw (← ea, not-false a ta, le-leb l.desk 7 low, ← eb, not-false b tb, ← eh, q)
+          pub after-payload : (x : After)
+              → x ≡ after_unpacked st l.desk (settings_of (loan_by l.reading l.rate l.base_channels h.header h.status l.lfe l.steps l.base_steps)) h.used l.payload l.payload_bits l.base w
+              → x ≡ frame_of l w st
+          unfolding frame_of verdict_of verdict_head after_unpacked
+          after-payload x e = e ∙ rw (← ea, not-false a ta, le-leb l.desk 7 low, ← eb, not-false b tb, ← er, q)

@@ -1,118 +1,50 @@
-// The frame call on a state by value: what is lent is tested, then the head is read, then the payload, and only then is anything written.
+// The frame call: what is lent is tested, then the head is read, then the payload, and only then is anything written.
 ghost use Rattle.std.specs.Prelude.{◌≡◌};
-ghost use Rattle.mc_base.specs.Base.{base_from};
-ghost use Rattle.mc_state.specs.Answer.{lent_of, buffers_from, after_of};
+ghost use Rattle.mc_state.specs.Answer.{lent_now, buffers_now, SameSlices, after_by, after_of};
 ghost use Rattle.mc_state.specs.Frame.{frame_of};
 
 use mc_body::unpacked_frame;
 use mc_checks::{lent_fits, values_fit};
 use mc_error::McError;
-use mc_head::{HeadAnswer, read_head};
-use mc_state::{Framed, McAnswer, McDecodeState};
+use mc_head::read_head;
+use mc_state::{Accepted, Buffers, Framed, Lent, McDecodeState};
 
-// One frame.
-pub fn frame<'h, 'p, 'a, 'b, 'n, 'r, 'w, 'o, 'l>(
-    state: McDecodeState,
-    head: &'h [u8],
-    head_bits: usize,
-    payload: &'p [u8],
-    payload_bits: usize,
-    reading: u32,
-    desk: u32,
-    rate: u32,
-    base_channels: u8,
-    raw_left: &'a [f64],
-    raw_right: &'a [f64],
-    scaled_left: &'a [f64],
-    scaled_right: &'a [f64],
-    base_nb_steps: &'b [u32],
-    lfe_allocation: u8,
-    nb_steps: &'n [u32],
-    raw: &'r mut [f64],
-    work: &'w mut [f64],
-    output: &'o mut [f64],
-    lfe: &'l mut [f64],
-) -> Framed
-    ensures { after_of result (buffers_from raw.new work.new output.new lfe.new) ≡ frame_of (lent_of head.now head_bits payload.now payload_bits reading desk rate base_channels (base_from raw_left.now raw_right.now scaled_left.now scaled_right.now) base_nb_steps.now lfe_allocation nb_steps.now) (buffers_from raw.old work.old output.old lfe.old) state }
+// One frame. After a refusal the state and all buffers are as they were, but refusal 5 has stored the history.
+pub fn decode_mc_frame(
+    state: &mut McDecodeState,
+    lent: &Lent<'_>,
+    buffers: &mut Buffers<'_>,
+) -> Result<Accepted, McError>
+    ensures same_slices { SameSlices buffers.old buffers.new }
+    ensures frame { after_by result state.new (buffers_now buffers.new) ≡ frame_of (lent_now lent.now) (buffers_now buffers.old) state.old }
 {
-    if !lent_fits(
-        head,
-        head_bits,
-        payload,
-        payload_bits,
-        reading,
-        rate,
-        base_channels,
-        raw_left,
-        raw_right,
-        scaled_left,
-        scaled_right,
-        base_nb_steps,
-        lfe_allocation,
-        nb_steps,
-        raw.len(),
-        work.len(),
-        output.len(),
-        lfe.len(),
-        state.layout_len,
-        state.layout,
-    ) {
-        return Framed {
-            answer: McAnswer::Refused(McError::InvalidArgument),
-            state,
-        };
+    if !lent_fits(lent, buffers, state) {
+        return Err(McError::InvalidArgument);
     }
-    if 7 < desk {
-        return Framed {
-            answer: McAnswer::Refused(McError::InvalidDesk),
-            state,
-        };
+    if 7 < lent.desk {
+        return Err(McError::InvalidDesk);
     }
-    if !values_fit(
-        raw_left,
-        raw_right,
-        scaled_left,
-        scaled_right,
-        &state.pred_hist,
-    ) {
-        return Framed {
-            answer: McAnswer::Refused(McError::ValueOutOfRange),
-            state,
-        };
+    if !values_fit(lent.base, &state.pred_hist) {
+        return Err(McError::ValueOutOfRange);
     }
-    let first = read_head(head, head_bits, reading, base_channels);
-    let answer = first.answer;
-    match answer {
-        HeadAnswer::Refused(e) => Framed {
-            answer: McAnswer::Refused(e),
-            state,
-        },
-        HeadAnswer::Accepted(used) => {
-            let header = first.header;
-            let status = first.status;
-            unpacked_frame(
-                state,
-                header,
-                status,
-                used,
-                payload,
-                payload_bits,
-                reading,
-                desk,
-                rate,
-                base_channels,
-                raw_left,
-                raw_right,
-                scaled_left,
-                scaled_right,
-                base_nb_steps,
-                lfe_allocation,
-                nb_steps,
-                raw,
-                work,
-                output,
-                lfe,
-            )
-        }
-    }
+    let head = read_head(
+        lent.head.bytes,
+        lent.head.bits,
+        lent.reading,
+        lent.base_channels,
+    )?;
+    unpacked_frame(state, lent, head.header, head.status, head.used, buffers)
+}
+
+// The same on a state by value.
+pub fn frame_by_value(
+    mut state: McDecodeState,
+    lent: &Lent<'_>,
+    buffers: &mut Buffers<'_>,
+) -> Framed
+    ensures same_slices { SameSlices buffers.old buffers.new }
+    ensures frame { after_of result (buffers_now buffers.new) ≡ frame_of (lent_now lent.now) (buffers_now buffers.old) state }
+{
+    let answer = decode_mc_frame(&mut state, lent, buffers);
+    Framed { answer, state }
 }

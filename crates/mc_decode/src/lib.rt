@@ -1,6 +1,6 @@
-// One frame on values: the state goes in and comes back by value.
+// One frame, on a state that is lent or by value.
 #![tactic(auto)]
 
 mod frame;
 
-pub use frame::frame as frame_by_value;
+pub use frame::{decode_mc_frame, frame_by_value};

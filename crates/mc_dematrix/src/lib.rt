@@ -2,16 +2,30 @@
 #![tactic(auto)]
 
 ghost use Rattle.std.specs.Prelude.{◌≡◌, cond, eqb};
-ghost use Rattle.mc_dematrix.specs.Dematrix.{root2, two, denorm, weighted32, phased32, weighted31, phased31, weighted1, weighted22, unweighted, passed, dematrixed};
+ghost use Rattle.mc_dematrix.specs.Dematrix.{weighted32, phased32, weighted31, phased31, weighted1, weighted22, unweighted, passed, dematrixed};
 
-const ROOT2: f64 = 1.4142135623730951;
+mod weights;
+
+use weights::Weights;
+
+// Of a slot and subband: both base channels, and the main channels of the extension.
+#[derive(Clone, Copy)]
+pub struct Signals {
+    pub lo: f64,
+    pub ro: f64,
+    pub t2: f64,
+    pub t3: f64,
+    pub t4: f64,
+}
 
 // ---- the weighted signals (2.5.3.2.1.1)
 
 // 3/2, procedures 0 and 1.
-fn weighted_32(tc: u8, lo: f64, ro: f64, t2: f64, t3: f64, t4: f64) -> [f64; 5]
-    ensures { result ≡ weighted32 tc lo ro t2 t3 t4 }
+#[tactic(auto, unfolding(crate::specs::Dematrix::weighted32))]
+fn weighted_32(tc: u8, x: Signals) -> [f64; 5]
+    ensures { result ≡ weighted32 tc x.lo x.ro x.t2 x.t3 x.t4 }
 {
+    let Signals { lo, ro, t2, t3, t4 } = x;
     match tc {
         0 => [lo - t2 - t3, ro - t2 - t4, t2, t3, t4],
         1 => {
@@ -37,9 +51,11 @@ fn weighted_32(tc: u8, lo: f64, ro: f64, t2: f64, t3: f64, t4: f64) -> [f64; 5]
 }
 
 // 3/2, procedure 2: the surround takes part in the front as 0.5 (t3 + t4).
-fn phased_32(tc: u8, lo: f64, ro: f64, t2: f64, t3: f64, t4: f64) -> [f64; 5]
-    ensures { result ≡ phased32 tc lo ro t2 t3 t4 }
+#[tactic(auto, unfolding(crate::specs::Dematrix::phased32))]
+fn phased_32(tc: u8, x: Signals) -> [f64; 5]
+    ensures { result ≡ phased32 tc x.lo x.ro x.t2 x.t3 x.t4 }
 {
+    let Signals { lo, ro, t2, t3, t4 } = x;
     let jsw = 0.5 * (t3 + t4);
     match tc {
         0 => [lo - t2 + jsw, ro - t2 - jsw, t2, t3, t4],
@@ -75,9 +91,11 @@ fn phased_32(tc: u8, lo: f64, ro: f64, t2: f64, t3: f64, t4: f64) -> [f64; 5]
 }
 
 // 3/1, procedures 0 and 1.
-fn weighted_31(tc: u8, lo: f64, ro: f64, t2: f64, t3: f64) -> [f64; 4]
-    ensures { result ≡ weighted31 tc lo ro t2 t3 }
+#[tactic(auto, unfolding(crate::specs::Dematrix::weighted31))]
+fn weighted_31(tc: u8, x: Signals) -> [f64; 4]
+    ensures { result ≡ weighted31 tc x.lo x.ro x.t2 x.t3 }
 {
+    let Signals { lo, ro, t2, t3, .. } = x;
     match tc {
         0 => [lo - t2 - t3, ro - t2 - t3, t2, t3],
         1 => {
@@ -100,9 +118,11 @@ fn weighted_31(tc: u8, lo: f64, ro: f64, t2: f64, t3: f64) -> [f64; 4]
 }
 
 // 3/1, procedure 2.
-fn phased_31(tc: u8, lo: f64, ro: f64, t2: f64, t3: f64) -> [f64; 4]
-    ensures { result ≡ phased31 tc lo ro t2 t3 }
+#[tactic(auto, unfolding(crate::specs::Dematrix::phased31))]
+fn phased_31(tc: u8, x: Signals) -> [f64; 4]
+    ensures { result ≡ phased31 tc x.lo x.ro x.t2 x.t3 }
 {
+    let Signals { lo, ro, t2, t3, .. } = x;
     match tc {
         0 => [lo - t2 + t3, ro - t2 - t3, t2, t3],
         1 => {
@@ -126,26 +146,30 @@ fn phased_31(tc: u8, lo: f64, ro: f64, t2: f64, t3: f64) -> [f64; 4]
 }
 
 // 3/0 and 2/1: one main channel, centre or surround.
-fn weighted_1(tc: u8, lo: f64, ro: f64, t2: f64) -> [f64; 3]
-    ensures { result ≡ weighted1 tc lo ro t2 }
+#[tactic(auto, unfolding(crate::specs::Dematrix::weighted1))]
+fn weighted_1(tc: u8, x: Signals) -> [f64; 3]
+    ensures { result ≡ weighted1 tc x.lo x.ro x.t2 }
 {
+    let Signals { lo, ro, t2, .. } = x;
     match tc {
         0 => [lo - t2, ro - t2, t2],
         1 => {
-            let x = lo - t2;
-            [t2, ro - x, x]
+            let xw = lo - t2;
+            [t2, ro - xw, xw]
         }
         _ => {
-            let x = ro - t2;
-            [lo - x, t2, x]
+            let xw = ro - t2;
+            [lo - xw, t2, xw]
         }
     }
 }
 
 // 2/2.
-fn weighted_22(tc: u8, lo: f64, ro: f64, t2: f64, t3: f64) -> [f64; 4]
-    ensures { result ≡ weighted22 tc lo ro t2 t3 }
+#[tactic(auto, unfolding(crate::specs::Dematrix::weighted22))]
+fn weighted_22(tc: u8, x: Signals) -> [f64; 4]
+    ensures { result ≡ weighted22 tc x.lo x.ro x.t2 x.t3 }
 {
+    let Signals { lo, ro, t2, t3, .. } = x;
     match tc {
         0 => [lo - t2, ro - t3, t2, t3],
         1 => [t2, ro - t3, lo - t2, t3],
@@ -154,102 +178,14 @@ fn weighted_22(tc: u8, lo: f64, ro: f64, t2: f64, t3: f64) -> [f64; 4]
     }
 }
 
-// ---- inverse weighting (2.5.3.2.5)
-
-// The factor that undoes the encoder's attenuation.
-fn denorm_of(procedure: u8) -> f64
-    ensures { result ≡ denorm procedure }
-{
-    if procedure == 1 {
-        1.5 + 0.5 * ROOT2
-    } else {
-        1.0 + ROOT2
-    }
-}
-
-// The inverse weight of a surround channel.
-fn surround_weight(procedure: u8) -> f64
-    ensures { result ≡ cond (eqb procedure 1) two root2 }
-{
-    if procedure == 1 { 2.0 } else { ROOT2 }
-}
-
-// 3/2: left, right, centre, left and right surround.
-fn unweighted_32(procedure: u8, x: [f64; 5]) -> [f64; 5]
-    ensures { result ≡ unweighted 32 procedure x }
-{
-    let d = denorm_of(procedure);
-    let w = surround_weight(procedure);
-    [
-        x[0] * d,
-        x[1] * d,
-        x[2] * ROOT2 * d,
-        x[3] * w * d,
-        x[4] * w * d,
-    ]
-}
-
-// 3/1: left, right, centre, surround.
-fn unweighted_31(procedure: u8, x: [f64; 4]) -> [f64; 5]
-    ensures { result ≡ unweighted 31 procedure x }
-{
-    let d = denorm_of(procedure);
-    let w = surround_weight(procedure);
-    [x[0] * d, x[1] * d, x[2] * ROOT2 * d, x[3] * w * d, 0.0]
-}
-
-// 3/0: left, right, centre.
-fn unweighted_30(procedure: u8, x: [f64; 3]) -> [f64; 5]
-    ensures { result ≡ unweighted 30 procedure x }
-{
-    let d = denorm_of(procedure);
-    [x[0] * d, x[1] * d, x[2] * ROOT2 * d, 0.0, 0.0]
-}
-
-// 2/2: left, right, left and right surround.
-fn unweighted_22(procedure: u8, x: [f64; 4]) -> [f64; 5]
-    ensures { result ≡ unweighted 22 procedure x }
-{
-    let d = denorm_of(procedure);
-    let w = surround_weight(procedure);
-    [x[0] * d, x[1] * d, x[2] * w * d, x[3] * w * d, 0.0]
-}
-
-// 2/1: left, right, surround.
-fn unweighted_21(procedure: u8, x: [f64; 3]) -> [f64; 5]
-    ensures { result ≡ unweighted 21 procedure x }
-{
-    let d = denorm_of(procedure);
-    let w = surround_weight(procedure);
-    [x[0] * d, x[1] * d, x[2] * w * d, 0.0, 0.0]
-}
-
 // ---- by configuration
 
-// 3/2, procedures 0 to 2.
-fn dematrix_32(procedure: u8, tc: u8, lo: f64, ro: f64, t2: f64, t3: f64, t4: f64) -> [f64; 5]
-    ensures { result ≡ unweighted 32 procedure (cond (eqb procedure 2) (phased32 tc lo ro t2 t3 t4) (weighted32 tc lo ro t2 t3 t4)) }
-{
-    if procedure == 2 {
-        return unweighted_32(procedure, phased_32(tc, lo, ro, t2, t3, t4));
-    }
-    unweighted_32(procedure, weighted_32(tc, lo, ro, t2, t3, t4))
-}
-
-// 3/1, procedures 0 to 2.
-fn dematrix_31(procedure: u8, tc: u8, lo: f64, ro: f64, t2: f64, t3: f64) -> [f64; 5]
-    ensures { result ≡ unweighted 31 procedure (cond (eqb procedure 2) (phased31 tc lo ro t2 t3) (weighted31 tc lo ro t2 t3)) }
-{
-    if procedure == 2 {
-        return unweighted_31(procedure, phased_31(tc, lo, ro, t2, t3));
-    }
-    unweighted_31(procedure, weighted_31(tc, lo, ro, t2, t3))
-}
-
 // Procedure 3: the signals as they are.
-fn passed_through(pair: u32, lo: f64, ro: f64, t2: f64, t3: f64, t4: f64) -> [f64; 5]
-    ensures { result ≡ passed pair lo ro t2 t3 t4 }
+#[tactic(auto, unfolding(crate::specs::Dematrix::passed))]
+fn passed_through(pair: u32, x: Signals) -> [f64; 5]
+    ensures { result ≡ passed pair x.lo x.ro x.t2 x.t3 x.t4 }
 {
+    let Signals { lo, ro, t2, t3, t4 } = x;
     match pair {
         32 => [lo, ro, t2, t3, t4],
         31 | 22 => [lo, ro, t2, t3, 0.0],
@@ -258,29 +194,65 @@ fn passed_through(pair: u32, lo: f64, ro: f64, t2: f64, t3: f64, t4: f64) -> [f6
     }
 }
 
-// The output values of a slot and subband from both base channels and the main channels, +0 beyond the configuration's.
-pub fn dematrix(
-    pair: u32,
-    procedure: u8,
-    tc: u8,
-    lo: f64,
-    ro: f64,
-    t2: f64,
-    t3: f64,
-    t4: f64,
-) -> [f64; 5]
-    ensures { result ≡ dematrixed pair procedure tc lo ro t2 t3 t4 }
+// 3/2, procedures 0 to 2.
+#[tactic(auto, unfolding(crate::specs::Dematrix::unweighted))]
+fn dematrix_32(procedure: u8, tc: u8, x: Signals) -> [f64; 5]
+    ensures { result ≡ unweighted 32 procedure (cond (eqb procedure 2) (phased32 tc x.lo x.ro x.t2 x.t3 x.t4) (weighted32 tc x.lo x.ro x.t2 x.t3 x.t4)) }
+{
+    let [l, r, c, ls, rs] = if procedure == 2 {
+        phased_32(tc, x)
+    } else {
+        weighted_32(tc, x)
+    };
+    let w = Weights::of(procedure);
+    [
+        w.front(l),
+        w.front(r),
+        w.centre(c),
+        w.surround(ls),
+        w.surround(rs),
+    ]
+}
+
+// 3/1, procedures 0 to 2. A row is shorter than one of 3/2, so one function for both is no plainer.
+#[tactic(auto, unfolding(crate::specs::Dematrix::unweighted))]
+fn dematrix_31(procedure: u8, tc: u8, x: Signals) -> [f64; 5]
+    ensures { result ≡ unweighted 31 procedure (cond (eqb procedure 2) (phased31 tc x.lo x.ro x.t2 x.t3) (weighted31 tc x.lo x.ro x.t2 x.t3)) }
+{
+    let [l, r, c, s] = if procedure == 2 {
+        phased_31(tc, x)
+    } else {
+        weighted_31(tc, x)
+    };
+    let w = Weights::of(procedure);
+    [w.front(l), w.front(r), w.centre(c), w.surround(s), 0.0]
+}
+
+// The output values, +0 beyond the configuration's.
+#[tactic(auto, unfolding(crate::specs::Dematrix::dematrixed, crate::specs::Dematrix::weighted, crate::specs::Dematrix::unweighted))]
+pub fn dematrix(pair: u32, procedure: u8, tc: u8, x: Signals) -> [f64; 5]
+    ensures { result ≡ dematrixed pair procedure tc x.lo x.ro x.t2 x.t3 x.t4 }
 {
     if procedure == 3 {
-        return passed_through(pair, lo, ro, t2, t3, t4);
+        return passed_through(pair, x);
     }
+    let w = Weights::of(procedure);
     match pair {
-        32 => dematrix_32(procedure, tc, lo, ro, t2, t3, t4),
-        31 => dematrix_31(procedure, tc, lo, ro, t2, t3),
-        30 => unweighted_30(procedure, weighted_1(tc, lo, ro, t2)),
-        22 => unweighted_22(procedure, weighted_22(tc, lo, ro, t2, t3)),
-        21 => unweighted_21(procedure, weighted_1(tc, lo, ro, t2)),
+        32 => dematrix_32(procedure, tc, x),
+        31 => dematrix_31(procedure, tc, x),
+        30 => {
+            let [l, r, c] = weighted_1(tc, x);
+            [w.front(l), w.front(r), w.centre(c), 0.0, 0.0]
+        }
+        22 => {
+            let [l, r, ls, rs] = weighted_22(tc, x);
+            [w.front(l), w.front(r), w.surround(ls), w.surround(rs), 0.0]
+        }
+        21 => {
+            let [l, r, s] = weighted_1(tc, x);
+            [w.front(l), w.front(r), w.surround(s), 0.0, 0.0]
+        }
         // nothing was matrixed into the base channels
-        _ => [lo, ro, 0.0, 0.0, 0.0],
+        _ => [x.lo, x.ro, 0.0, 0.0, 0.0],
     }
 }

@@ -4,7 +4,7 @@
 ghost use Rattle.std.specs.Prelude.{◌≡◌};
 ghost use Rattle.mc_error.specs.Error.{refusal_of};
 
-#[derive(Clone, Copy)]
+#[derive(Clone, Copy, Debug, PartialEq, Eq)]
 pub enum McError {
     UnexpectedEnd,
     ForbiddenDynCrossMode { sbgr: usize, mode: u8 },
@@ -43,15 +43,7 @@ impl McError {
     {
         match self {
             McError::ForbiddenDynCrossMode { sbgr, mode: _ } => sbgr,
-            McError::UnexpectedEnd => 0,
-            McError::MlLayer3Unsupported => 0,
-            McError::ReservedScalefactor => 0,
-            McError::ConfigChanged => 0,
-            McError::InvalidArgument => 0,
-            McError::ValueOutOfRange => 0,
-            McError::InvalidAllocation => 0,
-            McError::UndefinedCentre => 0,
-            McError::InvalidDesk => 0,
+            _ => 0,
         }
     }
 
@@ -61,15 +53,7 @@ impl McError {
     {
         match self {
             McError::ForbiddenDynCrossMode { sbgr: _, mode } => mode,
-            McError::UnexpectedEnd => 0,
-            McError::MlLayer3Unsupported => 0,
-            McError::ReservedScalefactor => 0,
-            McError::ConfigChanged => 0,
-            McError::InvalidArgument => 0,
-            McError::ValueOutOfRange => 0,
-            McError::InvalidAllocation => 0,
-            McError::UndefinedCentre => 0,
-            McError::InvalidDesk => 0,
+            _ => 0,
         }
     }
 }

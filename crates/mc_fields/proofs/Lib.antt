@@ -1,4 +1,3 @@
-pub mod HeaderWalk
 pub mod BitsIfLaws
 pub mod FieldLaws
 pub mod ForbiddenLaws

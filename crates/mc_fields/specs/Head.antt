@@ -1,5 +1,5 @@
 -- The head string: mc_header(), mc_error_check() and mc_composite_status_info() (ISO/IEC 13818-3, 2.5.1.13 to 2.5.1.15), as one program of fields.
-use Rattle.std.specs.Prelude.{Bool, ◌&&◌, cond, List, ℕ, zero, suc, ◌+◌, ◌*◌, eqb, ltb, get_or, set, replicate}
+use Rattle.std.specs.Prelude.{Bool, ◌&&◌, cond, List, ℕ, zero, suc, ◌+◌, ◌*◌, eqb, ltb, get_or, set, replicate, Option, Some, None}
 use Rattle.bits.specs.Syntax.{plain, Syntax, done, refuse, field, bind, both, times}
 use Rattle.mc_config.specs.declared.McHeader.{McHeader}
 use Rattle.mc_config.specs.declared.McConfig.{McConfig}
@@ -94,6 +94,10 @@ count_at t g px = get_or t (7 * g + 1 + px) 0
 unfoldable pub first_forbidden : ℕ → List ℕ → ℕ → ℕ → ℕ
 first_forbidden pair cross zero g = g
 first_forbidden pair cross (suc n) g = cond (listed pair (mode_at cross g)) (first_forbidden pair cross n (suc g)) g
+
+-- the lowest of the twelve groups whose code is not listed
+abbrev pub forbidden_group : ℕ → List ℕ → Option ℕ
+forbidden_group pair cross = let g = first_forbidden pair cross 12 0 in cond (ltb g 12) (Some g) None
 
 -- forbidden crosstalk, refusal 2, names the lowest such group and its code
 unfoldable pub check_modes : {A : Type 0} → ℕ → List ℕ → A → Syntax A

@@ -6,9 +6,10 @@ ghost use Rattle.mc_fields.specs.Lent.{string_fits, base_fits};
 
 mod header;
 
-pub use header::{HeaderRead, bits_if, read_mc_header};
+pub use header::{bits_if, read_mc_header};
 
-// mc_composite_status_info() as read; what a field of no bits would hold is 0.
+// mc_composite_status_info() as read; what a field of no bits would hold is 0. The tables are flat, by group, as the definitions and the
+// exported bytes have them.
 #[derive(Clone, Copy)]
 pub struct McStatus {
     pub tc_sbgr_select: bool,
@@ -16,9 +17,9 @@ pub struct McStatus {
     pub mc_prediction_on: bool,
     pub tc_allocation: [u8; 12],
     pub dyn_cross_lr: bool,
-    // by group: dyn_cross_mode, dyn_second_stereo
+    // dyn_cross_mode, dyn_second_stereo
     pub dyn_cross: [u8; 24],
-    // by group 0 to 7: mc_prediction, then predsi of each of six predictors
+    // groups 0 to 7: mc_prediction, then predsi of each of six predictors
     pub mc_prediction: [u8; 56],
 }
 

@@ -3,6 +3,7 @@ ghost use Rattle.std.specs.Prelude.{◌≡◌};
 ghost use Rattle.mc_config.specs.Groups.{sbgr_of};
 
 // The group of a subband.
+#[tactic(auto, unfolding(mc_config::specs::Groups::sbgr_of))]
 pub fn sbgr_of_subband(sb: usize) -> usize
     ensures { result ≡ sbgr_of sb }
 {

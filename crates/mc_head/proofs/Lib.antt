@@ -1,2 +1,2 @@
-pub mod HeadWalk
+pub mod HeadLaws
 pub mod AnswerLaws

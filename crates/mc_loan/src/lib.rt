@@ -3,4 +3,4 @@
 
 mod loan;
 
-pub use loan::{loan_fits, settings};
+pub use loan::Loan;

@@ -1,8 +1,9 @@
 // What a payload is read under, as lent: the tests of wrong loan, refusal 6, and the settings that it makes.
-ghost use Rattle.std.specs.Prelude.{◌≡◌, ℕ, ◌≤◌, length, get_or};
+ghost use Rattle.std.specs.Prelude.{◌≡◌, ℕ, length, get_or};
 ghost use Rattle.fill.specs.Tab.{tab};
-ghost use Rattle.fill.specs.Each.{each};
-ghost use Rattle.mc_payload.specs.Unpack.{rate_fits, steps_fit, loan_fits, settings_of, loan_by};
+ghost use Rattle.std.specs.List.{list_all};
+ghost use Rattle.mc_payload.specs.Unpack.{rate_fits, steps_fit, loan_fits, settings_of};
+ghost use Rattle.mc_loan.specs.Lent.{loan_with};
 
 use mc_config::McHeader;
 use mc_fields::McStatus;
@@ -11,121 +12,70 @@ use mc_payload::McSettings;
 fn rate_fits(rate: u32) -> bool
     ensures { result ≡ rate_fits rate }
 {
-    if rate == 48000 {
-        return true;
-    }
-    if rate == 44100 {
-        return true;
-    }
-    rate == 32000
+    matches!(rate, 48000 | 44100 | 32000)
 }
 
 // 0 or the step count of a class.
 fn steps_fit(n: u32) -> bool
     ensures { result ≡ steps_fit n }
 {
-    if n == 0 {
-        return true;
-    }
-    bitalloc::class_index(n) < bitalloc::CLASS_COUNT
+    n == 0 || bitalloc::class_index(n).is_some()
 }
 
-// The first n step counts.
-fn all_fit(steps: &[u32], n: usize) -> bool
-    requires { n ≤ length steps.now }
-    ensures { result ≡ each (λ k. steps_fit (get_or steps.now k 0)) n }
+fn all_fit(steps: &[u32]) -> bool
+    ensures { result ≡ list_all steps_fit steps.now }
 {
-    for k in 0usize..n {
-        if !steps_fit(steps[k]) {
-            return false;
+    steps.iter().all(|n| steps_fit(*n))
+}
+
+// The list as a table of fixed length, 0 past its end.
+fn table<const N: usize>(list: &[u32]) -> [u32; N]
+    ensures { result ≡ tab (λ (k : ℕ). get_or list.now k 0) N }
+{
+    std::array::from_fn(|k| list.get(k).copied().unwrap_or(0))
+}
+
+// What a payload is read under beside its head.
+#[derive(Clone, Copy)]
+pub struct Loan<'a> {
+    // of the transfer guide, 1 or 2
+    pub reading: u32,
+    pub rate: u32,
+    pub base_channels: u8,
+    pub lfe_allocation: u8,
+    pub nb_steps: &'a [u32],
+    pub base_nb_steps: &'a [u32],
+}
+
+impl Loan<'_> {
+    // Reading, rate, base channel count, LFE allocation, the number of step counts, and base step counts.
+    #[tactic(auto, unfolding(mc_payload::specs::Unpack::loan_fits))]
+    pub fn fits(&self) -> bool
+        ensures { let l = self.now in result ≡ loan_fits l.reading l.rate l.base_channels l.lfe_allocation l.nb_steps.now l.base_nb_steps.now }
+    {
+        mc_config::reading_fits(self.reading)
+            && rate_fits(self.rate)
+            && mc_fields::base_fits(self.base_channels)
+            && self.lfe_allocation <= 15
+            && self.nb_steps.len() == 96
+            && self.base_nb_steps.len() == 32 * usize::from(self.base_channels)
+            && all_fit(self.base_nb_steps)
+    }
+
+    // The lists as tables of fixed length, with the head.
+    #[tactic(auto, unfolding(mc_payload::specs::Unpack::settings_of))]
+    pub fn settings(&self, header: McHeader, status: McStatus) -> McSettings
+        ensures { result ≡ settings_of (loan_with self.now header status) }
+    {
+        McSettings {
+            reading: self.reading,
+            rate: self.rate,
+            base_channels: self.base_channels,
+            header,
+            status,
+            lfe_allocation: self.lfe_allocation,
+            nb_steps: table(self.nb_steps),
+            base_nb_steps: table(self.base_nb_steps),
         }
-    }
-    true
-}
-
-// Reading, rate, base channel count, LFE allocation, the number of step counts, and base step counts.
-pub fn loan_fits(
-    reading: u32,
-    rate: u32,
-    base_channels: u8,
-    lfe_allocation: u8,
-    nb_steps: &[u32],
-    base_nb_steps: &[u32],
-) -> bool
-    ensures { result ≡ loan_fits reading rate base_channels lfe_allocation nb_steps.now base_nb_steps.now }
-{
-    if !mc_config::reading_fits(reading) {
-        return false;
-    }
-    if !rate_fits(rate) {
-        return false;
-    }
-    if !mc_fields::base_fits(base_channels) {
-        return false;
-    }
-    if 15 < lfe_allocation {
-        return false;
-    }
-    if nb_steps.len() != 96 {
-        return false;
-    }
-    let n = 32 * (base_channels as usize);
-    if base_nb_steps.len() != n {
-        return false;
-    }
-    all_fit(base_nb_steps, n)
-}
-
-// The entry at k; 0 past the end.
-fn entry_at(list: &[u32], k: usize) -> u32
-    ensures { result ≡ get_or list.now k 0 }
-{
-    if k < list.len() { list[k] } else { 0 }
-}
-
-fn table_96(list: &[u32]) -> [u32; 96]
-    ensures { result ≡ tab (λ (k : ℕ). get_or list.now k 0) 96 }
-{
-    let mut table = [0u32; 96];
-    for k in 0usize..96 {
-        table[k] = entry_at(list, k);
-    }
-    table
-}
-
-fn table_64(list: &[u32]) -> [u32; 64]
-    ensures { result ≡ tab (λ (k : ℕ). get_or list.now k 0) 64 }
-{
-    let mut table = [0u32; 64];
-    for k in 0usize..64 {
-        table[k] = entry_at(list, k);
-    }
-    table
-}
-
-// The lists as tables of fixed length.
-pub fn settings(
-    reading: u32,
-    rate: u32,
-    base_channels: u8,
-    header: McHeader,
-    status: McStatus,
-    lfe_allocation: u8,
-    nb_steps: &[u32],
-    base_nb_steps: &[u32],
-) -> McSettings
-    ensures { result ≡ settings_of (loan_by reading rate base_channels header status lfe_allocation nb_steps.now base_nb_steps.now) }
-{
-    let steps = table_96(nb_steps);
-    let base_steps = table_64(base_nb_steps);
-    McSettings {
-        reading,
-        rate,
-        base_channels,
-        header,
-        status,
-        lfe_allocation,
-        nb_steps: steps,
-        base_nb_steps: base_steps,
     }
 }

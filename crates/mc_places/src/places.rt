@@ -1,14 +1,15 @@
 // Which channels and subbands the extension carries, and their step counts (ISO/IEC 13818-3, 2.5.2.13, 2.5.2.15 and 2.5.2.17).
 ghost use Rattle.std.specs.Prelude.{◌≡◌, ℕ, ◌<◌, get_or};
 ghost use Rattle.mc_config.specs.Config.{main_of};
+ghost use Rattle.mc_crosstalk.specs.Crosstalk.{source_of};
 ghost use Rattle.mc_places.specs.PlacesBy.{limit_by, limits_by, carried_by, source_by, group_sources, group_bases, steps_by, own_by, places_by, places_of};
 
 use mc_config::McConfig;
 use mc_crosstalk::{FROM_BASE, TRANSMITTED};
 use mc_payload::{McSettings, PHANTOM_LIMIT, msblimit};
 
-// By place, which is 3 * subband + channel.
-#[derive(Clone, Copy)]
+// By place, which is 3 * subband + channel: tables and no table of structs, since some who read them are lent one alone.
+#[derive(Clone, Copy, Default)]
 pub struct Places {
     pub steps: [u32; 96],
     // of samples that are in the payload
@@ -19,30 +20,28 @@ pub struct Places {
 }
 
 // The first subband that channel m no longer has, 0 for a channel that is not there; `phantom` is whether a phantom centre limits.
+#[tactic(auto, unfolding(crate::specs::PlacesBy::limit_by))]
 fn limit_by(nmch: usize, phantom: bool, limit: usize, m: usize) -> usize
     ensures { result ≡ limit_by nmch phantom limit m }
 {
-    if nmch <= m {
-        return 0;
+    if m >= nmch {
+        0
+    } else if phantom && m == 0 {
+        PHANTOM_LIMIT
+    } else {
+        limit
     }
-    if !phantom {
-        return limit;
-    }
-    if m == 0 { PHANTOM_LIMIT } else { limit }
 }
 
 // The same of the three channels.
 fn limits_by(nmch: usize, phantom: bool, limit: usize) -> [usize; 3]
     ensures { result ≡ limits_by nmch phantom limit }
 {
-    [
-        limit_by(nmch, phantom, limit, 0),
-        limit_by(nmch, phantom, limit, 1),
-        limit_by(nmch, phantom, limit, 2),
-    ]
+    std::array::from_fn(|m| limit_by(nmch, phantom, limit, m))
 }
 
 // Whether channel m is there in subband sb.
+#[tactic(auto, unfolding(crate::specs::PlacesBy::carried_by))]
 fn carried(limits: &[usize; 3], m: usize, sb: usize) -> bool
     requires { m < 3 }
     ensures { result ≡ carried_by limits.now m sb }
@@ -50,23 +49,27 @@ fn carried(limits: &[usize; 3], m: usize, sb: usize) -> bool
     sb < limits[m]
 }
 
+// The source of main channel m by a crosstalk code.
+fn listed_source(pair: u32, mode: u8, m: usize) -> u8
+    ensures { result ≡ source_of pair mode m }
+{
+    let row = mc_crosstalk::dyn_cross_sources(pair, mode).unwrap_or(&[]);
+    row.get(m).copied().unwrap_or(TRANSMITTED)
+}
+
 // The source of channel m by the crosstalk code and the second stereo bit of a group.
+#[tactic(auto, unfolding(crate::specs::PlacesBy::source_by))]
 fn source_by(pair: u32, main: usize, mode: u8, second: u8, m: usize) -> u8
-    requires { (main ≡ main_of pair) × (m < 3) }
+    requires { main ≡ main_of pair }
     ensures { result ≡ source_by pair mode second m }
 {
     if m < main {
-        let listed = mc_crosstalk::dyn_cross_sources(pair, mode);
-        let row = listed.sources;
-        return row[m];
+        listed_source(pair, mode, m)
+    } else if m == main + 1 && second == 1 {
+        main as u8
+    } else {
+        TRANSMITTED
     }
-    if m != main + 1 {
-        return TRANSMITTED;
-    }
-    if second != 1 {
-        return TRANSMITTED;
-    }
-    main as u8
 }
 
 // The sources of the three channels in each group.
@@ -74,10 +77,10 @@ fn group_sources(pair: u32, main: usize, cross: &[u8; 24]) -> [u8; 36]
     requires { main ≡ main_of pair }
     ensures { result ≡ group_sources pair cross.now }
 {
-    let mut table = [0u8; 36];
-    for k in 0usize..36 {
+    let mut table = [0; 36];
+    for (k, source) in table.iter_mut().enumerate() {
         let g = k / 3;
-        table[k] = source_by(pair, main, cross[2 * g], cross[2 * g + 1], k % 3);
+        *source = source_by(pair, main, cross[2 * g], cross[2 * g + 1], k % 3);
     }
     table
 }
@@ -86,14 +89,15 @@ fn group_sources(pair: u32, main: usize, cross: &[u8; 24]) -> [u8; 36]
 fn group_bases(pair: u32, tc: &[u8; 12], lr: bool, base_channels: u8) -> [u8; 36]
     ensures { result ≡ group_bases pair tc.now lr base_channels }
 {
-    let mut table = [0u8; 36];
-    for k in 0usize..36 {
-        table[k] = mc_roles::base_of(pair, tc[k / 3], k % 3, lr, base_channels) as u8;
+    let mut table = [0; 36];
+    for (k, base) in table.iter_mut().enumerate() {
+        *base = mc_roles::base_of(pair, tc[k / 3], k % 3, lr, base_channels) as u8;
     }
     table
 }
 
 // The step count of channel m in subband sb, its own or its source's.
+#[tactic(auto, unfolding(crate::specs::PlacesBy::steps_by))]
 fn steps_by(
     steps: &[u32; 96],
     base_steps: &[u32; 64],
@@ -109,45 +113,43 @@ fn steps_by(
     if !there {
         return 0;
     }
-    if source == TRANSMITTED {
-        return steps[32 * m + sb];
+    match source {
+        TRANSMITTED => steps[32 * m + sb],
+        FROM_BASE => base_steps[32 * usize::from(base) + sb],
+        _ => steps[32 * usize::from(source) + sb],
     }
-    if source == FROM_BASE {
-        return base_steps[32 * (base as usize) + sb];
-    }
-    steps[32 * (source as usize) + sb]
 }
 
 // The step count of samples that are in the payload.
+#[tactic(auto, unfolding(crate::specs::PlacesBy::own_by))]
 fn own_by(steps: &[u32; 96], there: bool, source: u8, m: usize, sb: usize) -> u32
     requires { (m < 3) × (sb < 32) }
     ensures { result ≡ own_by steps.now there source m sb }
 {
-    if !there {
-        return 0;
+    if there && source == TRANSMITTED {
+        steps[32 * m + sb]
+    } else {
+        0
     }
-    if source != TRANSMITTED {
-        return 0;
-    }
-    steps[32 * m + sb]
 }
 
 // The tables by place, from those by group.
-fn by_place<'a>(
+fn by_place(
     limits: &[usize; 3],
     sources: &[u8; 36],
     bases: &[u8; 36],
-    nb_steps: &'a [u32; 96],
-    base_nb_steps: &'a [u32; 64],
+    nb_steps: &[u32; 96],
+    base_nb_steps: &[u32; 64],
 ) -> Places
     requires { ((k : ℕ) → k < 36 → get_or sources.now k 0 < 5) × ((k : ℕ) → k < 36 → get_or bases.now k 0 < 2) }
     ensures { result ≡ places_by limits.now sources.now bases.now nb_steps.now base_nb_steps.now }
 {
-    let mut steps = [0u32; 96];
-    let mut own = [0u32; 96];
-    let mut source = [0u8; 96];
-    let mut base = [0u8; 96];
-    for i in 0usize..96 {
+    let mut steps = [0; 96];
+    let mut own = [0; 96];
+    let mut source = [0; 96];
+    let mut base = [0; 96];
+    // by index, since four tables are filled at one place
+    for i in 0..96 {
         let m = i % 3;
         let sb = i / 3;
         let k = 3 * mc_groups::sbgr_of_subband(sb) + m;
@@ -167,8 +169,8 @@ fn by_place<'a>(
     }
 }
 
-pub fn places_of(s: McSettings) -> Places
-    ensures { result ≡ places_of s }
+pub fn places_of(s: &McSettings) -> Places
+    ensures { result ≡ places_of s.now }
 {
     let config = McConfig::from_header(s.header, s.base_channels);
     let pair = config.pair();

@@ -1,6 +1,6 @@
 -- Laws of the roles: one for each main channel, under every tc_allocation; and of the base channel that is copied.
-use Rattle.std.specs.Prelude.{◌≡◌, refl, Bool, ◌||◌, cond, List, [], map, ℕ, ◌-◌, ◌<◌, T as Holds, eqb, ltb, length, get_or}
-use Rattle.std.proofs.Common.{arith, ltb-true, eqb→eq, lit<}
+use Rattle.std.specs.Prelude.{◌≡◌, refl, min, Bool, ◌||◌, cond, List, [], map, ℕ, ◌-◌, ◌<◌, T as Holds, eqb, ltb, length, get_or}
+use Rattle.std.proofs.Common.{arith, ltb-true, ltb-false, eqb→eq, lit<}
 use Rattle.std.proofs.lemmas.List.{length-map}
 use Rattle.mc_config.specs.Config.{main_of, left, right, left_surround, right_surround, second_left, second_right}
 use Rattle.mc_config.proofs.CaseLaws.{Other, by_pair-elim, by_pair-other, cond-all, cond-split}
@@ -18,6 +18,10 @@ row_within tc n some = cond-split (λ k. k < n) (ltb tc n) (ltb-true tc n) (λ e
 pub row-padded : (n filler : ℕ) (rows : List (List ℕ)) (tc : ℕ) → 0 < length rows → row_at (map (padded n filler) rows) tc ≡ padded n filler (row_at rows tc)
 row-padded n filler rows tc some =
     rw (length-map rows (padded n filler)) (padded-row n filler rows (cond (ltb tc (length rows)) tc (length rows - 1)) (row_within tc (length rows) some))
+
+-- the smaller of the code and the last place is the place of its row
+pub row-min : (tc n k : ℕ) → 0 < n → k ≡ min tc (n - 1) → k ≡ cond (ltb tc n) tc (n - 1)
+row-min tc n k some e = cond-split (λ i. k ≡ i) (ltb tc n) (λ t. omega (arith, ltb-true tc n t)) (λ t. omega (arith, ltb-false tc n t))
 
 -- rows of one length
 rows-length : (n : ℕ) (rows : List (List ℕ)) (tc : ℕ) → 0 < length rows → Holds (every (λ k row. eqb (length row) n) 0 rows) → length (row_at rows tc) ≡ n

@@ -3,4 +3,4 @@
 
 mod roles;
 
-pub use roles::{Roles, base_of, fallback_base_channel, tc_roles};
+pub use roles::{base_of, fallback_base_channel, role, tc_roles};

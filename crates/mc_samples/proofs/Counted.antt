@@ -1,10 +1,12 @@
 -- What the loops over granules and over places have counted, and the entries of the table of excesses.
-use Rattle.std.specs.Prelude.{◌≡◌, refl, true, false, List, ℕ, zero, suc, ◌+◌, ◌*◌, ◌/◌, ◌%◌, ◌≤◌, ◌<◌, T, get_or, replicate}
-use Rattle.std.proofs.Common.{sym, ◌∙◌, subst, arith}
+use Rattle.std.specs.Prelude.{◌≡◌, refl, true, false, List, ℕ, zero, suc, ◌+◌, ◌-◌, ◌*◌, ◌/◌, ◌%◌, ◌≤◌, ◌<◌, T, length, get_or, replicate}
+use Rattle.std.proofs.Common.{sym, ap, ◌∙◌, subst, ⊎_elim, eq-zero-or-pos, ext_get_or, arith}
 use Rattle.std.proofs.Math.Nat.{div-le_self}
 use Rattle.std.proofs.lemmas.List.{set-get_or, get_or-replicate}
-use Rattle.fill.proofs.TabLaws.{get_or-tab}
-use Rattle.fill.proofs.InOrder.{Filling, more, moved, unfilled}
+use borrow.Rule.Slice.PartMut.{put_mid}
+use Rattle.fill.specs.Tab.{filled}
+use Rattle.fill.proofs.TabLaws.{get_or-tab, length-filled, get_or-filled, get_d_past}
+use Rattle.fill.proofs.InOrder.{Filling, more, moved, ends, unfilled}
 use Rattle.bits.specs.Total.{total}
 use Rattle.bits.proofs.TotalLaws.{total-same}
 use Rattle.bitalloc.specs.Classes.{is_class, class_of, grouped}
@@ -14,6 +16,7 @@ use Rattle.requant.specs.Requant.{excess_of}
 use Rattle.mc_payload.specs.Record.{one_for, excess_codes}
 use Rattle.mc_payload.proofs.Counting.{total-more, total-split, total-from, total-most, one-most, one_none, one-some}
 use Rattle.mc_payload.proofs.Excess.{single_none}
+use Rattle.fill.proofs.Part.{length-part, part-in, part-before, part-after}
 use Rattle.mc_values.specs.Values.{first_at, code_excess, excess_by, excess_in, excesses_from}
 
 -- how many of f 0, .., f (n - 1) are not 0
@@ -136,3 +139,37 @@ excess-entry own granules i gr x h g e =
     let at : (12 * i + gr) / 12 ≡ i = omega arith in
     let granule : (12 * i + gr) % 12 ≡ gr = omega arith in
     rw (at, granule, g) e
+
+-- a place whose twelve excesses were written
+module _ {f : ℕ → ℕ} {d dst part items : List ℕ} {i k : ℕ} (p : Filling f 1152 d dst (12 * i)) (h : i < 96) (n : length part ≡ 12) (q : Filling (λ (gr : ℕ). f (12 * i + gr)) 12 part items k) (full : 12 ≤ k) where
+  abbrev next : List ℕ
+  next = put_mid (12 * i) 12 dst items
+
+  long-items : length items ≡ 12
+  long-items = q.long ∙ n
+
+  room : 12 * i + 12 ≤ length dst
+  room = omega (arith, p.room, p.long)
+
+  written : (j : ℕ) → j < 12 * (i + 1) → get_or next j 0 ≡ f j
+  written j l =
+      ⊎_elim
+      (λ e. let at : 12 * i + (j - 12 * i) ≡ j = omega arith in
+      part-in 0 (12 * i) 12 dst items long-items room j (omega arith) (omega arith) ∙ ap (λ (x : List ℕ). get_or x (j - 12 * i) 0) (ends q full) ∙ get_or-filled 0 (λ (gr : ℕ). f (12 * i + gr)) 12 (j - 12 * i) part (omega arith) ∙ ap f at)
+      (λ e. part-before 0 (12 * i) 12 dst items long-items room j (omega arith) ∙ ap (λ (x : List ℕ). get_or x j 0) p.is ∙ get_or-filled 0 f (12 * i) j d (omega arith))
+      (eq-zero-or-pos (12 * i - j))
+
+  long-next : length next ≡ length dst
+  long-next = length-part 0 (12 * i) 12 dst items long-items room
+
+  pub place-written : Filling f 1152 d next (12 * (i + 1))
+  place-written =
+      record {
+        room = p.room;
+        below = omega arith;
+        long = long-next ∙ p.long;
+        is = ext_get_or 0 next (filled f (12 * (i + 1)) d) (long-next ∙ p.long ∙ sym (length-filled f (12 * (i + 1)) d (omega (arith, p.room)))) (λ j l. ⊎_elim
+            (λ e. part-after 0 (12 * i) 12 dst items long-items room j (omega arith) ∙ ap (λ (x : List ℕ). get_or x j 0) p.is ∙ get_d_past 0 f (12 * i) j d (omega arith) ∙ sym (get_d_past 0 f (12 * (i + 1)) j d (omega arith)))
+            (λ e. written j (omega arith) ∙ sym (get_or-filled 0 f (12 * (i + 1)) j d (omega arith)))
+            (eq-zero-or-pos (12 * (i + 1) - j)));
+      }

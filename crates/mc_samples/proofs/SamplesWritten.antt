@@ -9,11 +9,11 @@ use native.Mathlib.Omega.{arith}
 use lib.Ieee.{Float, nan}
 use lib.ListN.{length, get_or, set}
 use lib.Seq.{ext_get_or}
-use borrow.Author.Tests.{ne_eqb, ltb-true}
+use borrow.Author.Tests.{ne_eqb}
 use Rattle.fill.specs.Tab.{tab}
 use Rattle.fill.proofs.TabLaws.{length-tab, get_or-tab}
 use Rattle.floats.specs.Binary64.{zero64}
-use Rattle.bitalloc.specs.Classes.{class_index, class_at, is_class, class_of}
+use Rattle.bitalloc.specs.Classes.{is_class, class_of}
 use Rattle.bitalloc.specs.declared.QuantClass.{QuantClass}
 use Rattle.requant.specs.Requant.{requantized}
 use Rattle.mc_payload.specs.Unpack.{steps_fit}
@@ -28,14 +28,6 @@ module _ (class : QuantClass) (x y z : ℕ) (codes : List ℕ) (e : codes ≡ th
       → u ∷ v ∷ w ∷ [] ≡ three_values class x y z
   unfolding three_values
   three_made u v w eu ev ew = rw (eu, ev, ew, e)
-
--- the class of n steps
-module _ (n index : ℕ) (e : index ≡ class_index n) where
-  pub index-small : is_class n ≡ true → index < 17
-  index-small c = rw e (ltb-true (class_index n) 17 c)
-
-  pub class-found : (class : QuantClass) → class ≡ class_at index → class ≡ class_of n
-  class-found class f = rw (f, e)
 
 -- the values of granule gr of place i are those of its three slots
 module _ (n : ℕ) (granules : List ℕ) (i gr : ℕ) (class : QuantClass) (ec : class ≡ class_of n) (values : List Float)

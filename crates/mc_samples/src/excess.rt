@@ -8,10 +8,7 @@ ghost use Rattle.mc_values.specs.Values.{excesses_from};
 fn has_groups(n: u32) -> bool
     ensures { result ≡ grouped n }
 {
-    if n == 0 {
-        return false;
-    }
-    bitalloc::class_or_zero(n).grouping
+    n != 0 && bitalloc::class_or_zero(n).grouping
 }
 
 // The excess of a code of n steps.
@@ -19,19 +16,18 @@ fn excess_of(n: u32, code: u16) -> u16
     requires { 0 < n }
     ensures { result ≡ Requant·excess_of n code }
 {
-    requant::degroup(n, code as u32).excess as u16
+    requant::degroup(n, u32::from(code)).excess as u16
 }
 
 // By place and granule; 0 where a place has no group codes.
-pub fn excesses<'a>(own: &'a [u32; 96], granules: &'a [u16; 3468]) -> [u16; 1152]
+pub fn excesses(own: &[u32; 96], granules: &[u16; 3468]) -> [u16; 1152]
     ensures { result ≡ excesses_from own.now granules.now }
 {
     let mut table = [0u16; 1152];
-    for i in 0usize..96 {
-        let n = own[i];
-        if has_groups(n) {
-            for gr in 0usize..12 {
-                table[12 * i + gr] = excess_of(n, granules[289 * gr + 1 + 3 * i]);
+    for (i, n) in own.iter().enumerate() {
+        if has_groups(*n) {
+            for (gr, excess) in table[12 * i..12 * i + 12].iter_mut().enumerate() {
+                *excess = excess_of(*n, granules[289 * gr + 1 + 3 * i]);
             }
         }
     }

@@ -10,15 +10,16 @@ use bitalloc::QuantClass;
 use requant::Degrouped;
 
 // The codes of three samples: the digits of the group code x and its excess, or x, y and z.
+#[tactic(auto, unfolding(mc_values::specs::Values::three_codes, mc_values::specs::Values::code_excess))]
 fn three_codes(class: QuantClass, x: u16, y: u16, z: u16) -> Degrouped
     requires { 0 < class.nb_steps }
     ensures { (result.digits ≡ three_codes class.grouping class.nb_steps x y z) × (result.excess ≡ code_excess class.grouping class.nb_steps x) }
 {
     if class.grouping {
-        return requant::degroup(class.nb_steps, x as u32);
+        return requant::degroup(class.nb_steps, u32::from(x));
     }
     Degrouped {
-        digits: [x as u32, y as u32, z as u32],
+        digits: [x.into(), y.into(), z.into()],
         excess: 0,
     }
 }
@@ -51,10 +52,11 @@ fn write_place(n: u32, i: usize, granules: &[u16; 3468], raw: &mut [f64]) -> u32
     requires place_fits { PlaceFits n granules.now i }
     ensures { (raw.new ≡ spread (raw_by n granules.now i) (1152 * (i % 3) + i / 3) 36 raw.old) × (result ≡ total 12 0 (λ gr. one_for (excess_by n granules.now i gr))) }
 {
-    let class = bitalloc::class_at(bitalloc::class_index(n));
+    let class = bitalloc::class_or_zero(n);
     let first = 1152 * (i % 3) + i / 3;
-    let mut excess_codes: u32 = 0;
-    for gr in 0usize..12 {
+    let mut excess_codes = 0;
+    // by number, which gives a granule's place in both tables
+    for gr in 0..12 {
         let j = 289 * gr + 1 + 3 * i;
         let three = three_values(class, granules[j], granules[j + 1], granules[j + 2]);
         let k = first + 96 * gr;
@@ -69,21 +71,21 @@ fn write_place(n: u32, i: usize, granules: &[u16; 3468], raw: &mut [f64]) -> u32
 }
 
 // All raw values, +0 where the payload has none. Answers how many group codes have an excess.
-pub fn write_raw<'a>(own: &'a [u32; 96], granules: &'a [u16; 3468], raw: &mut [f64]) -> u32
+pub fn write_raw(own: &[u32; 96], granules: &[u16; 3468], raw: &mut [f64]) -> u32
     requires { (length raw.old ≡ 3456) × ((i : ℕ) → i < 96 → steps_fit (get_or own.now i 0) ≡ true) × SamplesFit own.now granules.now }
     ensures { (raw.new ≡ raw_from own.now granules.now) × (result ≡ excess_codes (excesses_from own.now granules.now)) }
 {
     fill::clear(raw);
-    let mut excess_codes: u32 = 0;
-    for i in 0usize..96 {
-        let n = own[i];
-        if n != 0 {
-            excess_codes += write_place(n, i, granules, raw);
+    let mut excess_codes = 0;
+    for (i, n) in own.iter().enumerate() {
+        if *n != 0 {
+            excess_codes += write_place(*n, i, granules, raw);
         }
     }
     excess_codes
 }
 
+#[tactic(auto, unfolding(mc_values::specs::Values::lfe_by))]
 fn lfe_value(lfe: u8, lf_scalefactor: u8, code: u16) -> f64
     requires lfe_bound { (lfe ≤ 15) × (lf_scalefactor < 63) }
     requires code_bound { code < 2 ^ (lfe + 1) }
@@ -92,7 +94,7 @@ fn lfe_value(lfe: u8, lf_scalefactor: u8, code: u16) -> f64
     if lfe == 0 {
         return 0.0;
     }
-    requant::lfe_sample(lfe as u32, lf_scalefactor as usize, code as u32)
+    requant::lfe_sample(lfe.into(), lf_scalefactor.into(), code.into())
 }
 
 // The LFE sample of each granule, +0 without an LFE allocation.
@@ -101,7 +103,7 @@ pub fn write_lfe(lfe: u8, lf_scalefactor: u8, granules: &[u16; 3468], out: &mut 
     requires lfe_fits { LfeFits lfe granules.now }
     ensures { out.new ≡ lfe_from lfe lf_scalefactor granules.now }
 {
-    for gr in 0usize..12 {
-        out[gr] = lfe_value(lfe, lf_scalefactor, granules[289 * gr]);
+    for (gr, sample) in out.iter_mut().enumerate() {
+        *sample = lfe_value(lfe, lf_scalefactor, granules[289 * gr]);
     }
 }

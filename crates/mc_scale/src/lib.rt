@@ -8,8 +8,9 @@ ghost use Rattle.mc_scale.specs.Code.Column.{column_at};
 ghost use Rattle.mc_scale.specs.Code.ScaleByPlace.{factors_of, times_factor, scaled_from, PlacesFit, scaled_by_place};
 ghost use Rattle.mc_scale.specs.Code.TwoSteps.{two_steps_by_place};
 
-use mc_base::chosen;
+use mc_base::Stereo;
 use mc_crosstalk::{FROM_BASE, TRANSMITTED};
+use mc_places::Places;
 
 // The factors of all places, each looked up once.
 fn factors_of(scalefactor: &[u8; 288]) -> [f64; 288]
@@ -17,24 +18,20 @@ fn factors_of(scalefactor: &[u8; 288]) -> [f64; 288]
     ensures { result ≡ factors_of scalefactor.now }
 {
     let table = tables::scalefactor_table();
-    let mut factors = [0.0f64; 288];
-    for i in 0usize..288 {
-        let index = scalefactor[i] as usize;
-        factors[i] = table[index];
-    }
-    factors
+    std::array::from_fn(|i| table[scalefactor[i] as usize])
 }
 
-// One subband of a channel: the values that `src` has from `from` on, times the factors of the place.
+// One subband of a channel: the values that `src` has from `from` on, times the factors of the place. By index, since both go in steps of
+// 32 from different places: a chain of step_by and zip is no plainer.
 fn scale_column(
     src: &[f64],
     from: usize,
     factors: &[f64; 288],
     place: usize,
-    work: &mut [f64],
+    work: &mut [f64; 3456],
     at: usize,
 )
-    requires { (from + 1120 < length src.now) × (place < 96) × (at + 1120 < length work.old) }
+    requires { (from + 1120 < length src.now) × (place < 96) × (at + 1120 < 3456) }
     ensures { work.new ≡ column (times_factor src.now from factors.now place) at work.old }
 {
     for slot in 0usize..36 {
@@ -43,62 +40,54 @@ fn scale_column(
 }
 
 // One place: its own raw values, a base channel's, or an earlier channel's (2.5.3.2.1.2), scaled.
-fn scale_place<'a>(
+fn scale_place(
     place: usize,
-    source: u8,
-    base: u8,
+    places: &Places,
     factors: &[f64; 288],
-    raw: &[f64],
-    left: &'a [f64],
-    right: &'a [f64],
-    work: &mut [f64],
+    raw: &[f64; 3456],
+    base: Stereo<&[f64]>,
+    work: &mut [f64; 3456],
 )
-    requires { (place < 96) × (source ≤ 4) × (length raw.now ≡ 3456) × (length (chosen base left.now right.now) ≡ 1152) × (length work.old ≡ 3456) }
-    ensures { work.new ≡ column (scaled_from source base factors.now raw.now left.now right.now place) (column_at place) work.old }
+    requires { (place < 96) × (get_or places.now.source place 0 ≤ 4) × (length (chosen (get_or places.now.base place 0) base.left.now base.right.now) ≡ 1152) }
+    ensures { work.new ≡ column (scaled_from (get_or places.now.source place 0) (get_or places.now.base place 0) factors.now raw.now base.entry.left.now base.entry.right.now place) (column_at place) work.old }
 {
     let sb = place / 3;
     let at = 1152 * (place % 3) + sb;
-    match source {
+    match places.source[place] {
         TRANSMITTED => scale_column(raw, at, factors, place, work, at),
-        FROM_BASE => scale_column(chosen(base, left, right), sb, factors, place, work, at),
-        _ => scale_column(raw, 1152 * (source as usize) + sb, factors, place, work, at),
+        FROM_BASE => scale_column(
+            base.chosen(places.base[place]),
+            sb,
+            factors,
+            place,
+            work,
+            at,
+        ),
+        earlier => scale_column(raw, 1152 * earlier as usize + sb, factors, place, work, at),
     }
 }
 
 // All places, channel by channel: work holds the scaled values, channel m, slot and subband at (36 * m + slot) * 32 + subband; +0 where
 // the step count is 0. A source is multiplied while it is read, with no copy in work. The second promise: that is the same as copying all
 // sources into work and then multiplying work, whatever it held.
-pub fn scale<'a>(
-    steps: &[u32; 96],
-    source: &[u8; 96],
-    base: &[u8; 96],
+pub fn scale(
+    places: &Places,
     scalefactor: &[u8; 288],
-    raw: &[f64],
-    left: &'a [f64],
-    right: &'a [f64],
-    work: &mut [f64],
+    raw: &[f64; 3456],
+    base: Stereo<&[f64]>,
+    work: &mut [f64; 3456],
 )
-    requires places_fit { PlacesFit source.now base.now scalefactor.now left.now right.now }
-    requires lengths { (length raw.now ≡ 3456) × (length work.old ≡ 3456) }
-    ensures scaled { work.new ≡ scaled_by_place steps.now source.now base.now (factors_of scalefactor.now) raw.now left.now right.now }
-    ensures two_steps { work.new ≡ two_steps_by_place steps.now source.now base.now (factors_of scalefactor.now) raw.now left.now right.now work.old }
+    requires { PlacesFit places.now.source places.now.base scalefactor.now base.left.now base.right.now }
+    ensures scaled { work.new ≡ scaled_by_place places.now.steps places.now.source places.now.base (factors_of scalefactor.now) raw.now base.entry.left.now base.entry.right.now }
+    ensures two_steps { work.new ≡ two_steps_by_place places.now.steps places.now.source places.now.base (factors_of scalefactor.now) raw.now base.entry.left.now base.entry.right.now work.old }
 {
     let factors = factors_of(scalefactor);
-    fill::clear(work);
+    work.fill(0.0);
+    // the place is computed with: an iterator over the step counts goes in another order
     for i in 0usize..96 {
         let place = 3 * (i % 32) + i / 32;
-        let n = steps[place];
-        if n != 0 {
-            scale_place(
-                place,
-                source[place],
-                base[place],
-                &factors,
-                raw,
-                left,
-                right,
-                work,
-            );
+        if places.steps[place] != 0 {
+            scale_place(place, places, &factors, raw, base, work);
         }
     }
 }

@@ -1,12 +1,13 @@
 -- What the code's arguments and its answer say, in the definition's terms.
-use Rattle.std.specs.Prelude.{List, ℕ, ◌+◌, ◌*◌, ◌%◌, Float}
+use Rattle.std.specs.Prelude.{◌≡◌, List, ℕ, ◌+◌, ◌*◌, ◌%◌, Float, Result, Ok, Err}
 use Rattle.bits.specs.Syntax.{accepted, refused}
 use Rattle.mc_error.specs.Error.{refusal_of}
-use Rattle.mc_base.specs.Base.{Base}
-use Rattle.mc_state.specs.declared.McAnswer.{McAnswer}
-use Rattle.mc_state.specs.declared.McAnswer.TheVariants.{Accepted, Refused}
-use Rattle.mc_state.specs.declared.CarryAnswer.{CarryAnswer}
-use Rattle.mc_state.specs.declared.CarryAnswer.TheVariants.{Carried, Refused as CarryRefused}
+use Rattle.mc_error.specs.declared.McError.{McError}
+use Rattle.mc_base.specs.Base.{Base, lent}
+use Rattle.mc_loan.specs.declared.loan.Loan.{Loan}
+use Rattle.mc_state.specs.declared.Accepted.{Accepted}
+use Rattle.mc_state.specs.declared.loan.Lent as Lending
+use Rattle.mc_state.specs.declared.loan.Buffers as Writing
 use Rattle.mc_state.specs.declared.Framed.{Framed}
 use Rattle.mc_state.specs.declared.McDecodeState.{McDecodeState}
 use Rattle.mc_state.specs.Carry.{Carrying}
@@ -29,15 +30,41 @@ lent_of head head_bits payload payload_bits reading desk rate base_channels base
       steps = steps;
     }
 
+-- the same of the struct that lends it
+abbrev pub lent_now : Lending.Lent → Lent
+lent_now l =
+    lent_of l.head.bytes.now l.head.bits l.payload.bytes.now l.payload.bits l.reading l.desk l.rate l.base_channels (lent l.base) l.base_nb_steps.now l.lfe_allocation l.nb_steps.now
+
+-- what its payload is read under, beside the head
+abbrev pub loan_in : Lending.Lent → Loan
+loan_in l =
+    record {
+      reading = l.reading;
+      rate = l.rate;
+      base_channels = l.base_channels;
+      lfe_allocation = l.lfe_allocation;
+      nb_steps = l.nb_steps;
+      base_nb_steps = l.base_nb_steps;
+    }
+
 abbrev pub buffers_from : List Float → List Float → List Float → List Float → Buffers
 buffers_from raw work output lfe = record { raw = raw; work = work; output = output; lfe = lfe }
 
--- accepted, with the used bits of head and payload and the number of excesses; or refused, with the refusal's number, group and code
-abbrev pub outcome_of : McAnswer → Answer
-outcome_of (Accepted head_bits payload_bits excess_codes) = accepted (head_bits, excess_codes) payload_bits
-outcome_of (Refused e) = refused (refusal_of e)
+abbrev pub buffers_now : Writing.Buffers → Buffers
+buffers_now w = buffers_from w.raw.now w.work.now w.output.now w.lfe.now
 
-abbrev pub after_by : McAnswer → McDecodeState → Buffers → After
+-- the struct lends the same four slices as before, whatever is in them
+abbrev pub SameSlices : Writing.Buffers → Writing.Buffers → Type 0
+SameSlices w w' =
+    (w'.raw.ghost_name ≡ w.raw.ghost_name)
+    × ((w'.work.ghost_name ≡ w.work.ghost_name) × ((w'.output.ghost_name ≡ w.output.ghost_name) × (w'.lfe.ghost_name ≡ w.lfe.ghost_name)))
+
+-- accepted, with the used bits of head and payload and the number of excesses; or refused, with the refusal's number, group and code
+abbrev pub outcome_of : Result Accepted McError → Answer
+outcome_of (Ok a) = accepted (a.head_bits, a.excess_codes) a.payload_bits
+outcome_of (Err e) = refused (refusal_of e)
+
+abbrev pub after_by : Result Accepted McError → McDecodeState → Buffers → After
 after_by answer state w = record { answer = outcome_of answer; buffers = w; state = state }
 
 abbrev pub after_of : Framed → Buffers → After
@@ -46,15 +73,17 @@ after_of r w = after_by r.answer r.state w
 -- ---- carrying and conversion
 
 -- 0, or the refusal's number
-abbrev pub carry_number : CarryAnswer → ℕ
-carry_number Carried = 0
-carry_number (CarryRefused e) = (refusal_of e).number
+abbrev pub carry_number : {A : Type 0} → Result A McError → ℕ
+carry_number (Ok a) = 0
+carry_number (Err e) = (refusal_of e).number
 
 abbrev pub carrying_by : ℕ → McDecodeState → Carrying
 carrying_by n state = record { answer = n; state = state }
 
-abbrev pub carrying_of : CarryAnswer → McDecodeState → Carrying
-carrying_of answer state = carrying_by (carry_number answer) state
+-- the next state; or the refusal's number and the state before, which stays
+abbrev pub carrying_of : Result McDecodeState McError → McDecodeState → Carrying
+carrying_of (Ok next) before = carrying_by 0 next
+carrying_of (Err e) before = carrying_by (refusal_of e).number before
 
 -- ---- the answer as one number, for C
 

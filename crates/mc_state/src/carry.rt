@@ -1,28 +1,28 @@
 // A state carried over to another reading.
 ghost use Rattle.std.specs.Prelude.{◌≡◌};
-ghost use Rattle.mc_state.specs.Answer.{carrying_of};
+ghost use Rattle.mc_state.specs.Answer.{carry_number, carrying_by, carrying_of};
 ghost use Rattle.mc_state.specs.Carry.{carried_over};
 
-use crate::held::held_fits;
-use crate::{CarriedState, CarryAnswer, McDecodeState};
+use crate::McDecodeState;
 use mc_error::McError;
 
 impl McDecodeState {
     // Keeps all but the layout, of which the count stays. Refuses only a wrong count or layout, and looks at no value of the history.
-    pub fn carry(self) -> CarriedState
-        ensures { carrying_of result.answer result.state ≡ carried_over self }
+    #[tactic(auto, unfolding(crate::specs::Carry::carried_over))]
+    pub fn carry(self) -> Result<McDecodeState, McError>
+        ensures { carrying_of result self ≡ carried_over self }
     {
-        if !held_fits(self.layout_len, self.layout) {
-            return CarriedState {
-                answer: CarryAnswer::Refused(McError::InvalidArgument),
-                state: self,
-            };
+        if !self.held().fits() {
+            return Err(McError::InvalidArgument);
         }
-        let mut state = self;
-        state.layout = 0;
-        CarriedState {
-            answer: CarryAnswer::Carried,
-            state,
-        }
+        Ok(McDecodeState { layout: 0, ..self })
     }
+}
+
+// The same in place; a refusal leaves the state as it was.
+pub fn carry_mc_state(state: &mut McDecodeState) -> Result<(), McError>
+    ensures { carrying_by (carry_number result) state.new ≡ carried_over state.old }
+{
+    *state = state.carry()?;
+    Ok(())
 }

@@ -1,52 +1,39 @@
 // A state of before there were desks.
-ghost use Rattle.std.specs.Prelude.{◌≡◌, length};
+ghost use Rattle.std.specs.Prelude.{◌≡◌};
 ghost use Rattle.mc_state.specs.Answer.{carrying_of};
 ghost use Rattle.mc_state.specs.Carry.{converted_over};
+ghost use Rattle.mc_state.specs.declared.McDecodeState.{McDecodeState};
 
-use crate::held::held_fits;
-use crate::{CarriedState, CarryAnswer, McDecodeState};
+use crate::{HeldLayout, McDecodeState};
 use mc_error::McError;
 
-fn history_of(values: &[f64]) -> [f64; 576]
-    requires { length values.now ≡ 576 }
-    ensures { result ≡ values.now }
-{
-    let mut history = [0.0f64; 576];
-    for k in 0usize..576 {
-        history[k] = values[k];
-    }
-    history
-}
-
 impl McDecodeState {
-    // Puts a state with one tally, by its fields, in place of this one: desk 0 has the tally, the others none, and the rest is kept. A state of before there
-    // were layouts has layout 0. Refuses a history of another length than 576, and else as `carry`; this state then stays.
+    // A state with one tally, by its fields: desk 0 has the tally, the others none, and the rest is kept. A state of before there were layouts has layout 0.
+    // Refuses a history of another length than 576, and else as `carry`; the state in whose place this one was to stand then stays.
+    #[tactic(auto, unfolding(crate::specs::Carry::converted_over))]
     pub fn convert(
-        self,
         pred_hist: &[f64],
         layout_len: u8,
         layout: u8,
         accepted: u32,
-    ) -> CarriedState
-        ensures { carrying_of result.answer result.state ≡ converted_over pred_hist.now layout_len layout accepted self }
+    ) -> Result<McDecodeState, McError>
+        ensures { (before : McDecodeState) → carrying_of result before ≡ converted_over pred_hist.now layout_len layout accepted before }
     {
-        let long = pred_hist.len() == 576;
-        let held = held_fits(layout_len, layout);
-        if !(long & held) {
-            return CarriedState {
-                answer: CarryAnswer::Refused(McError::InvalidArgument),
-                state: self,
-            };
+        let held = HeldLayout {
+            count: layout_len,
+            layout,
+        };
+        if !held.fits() {
+            return Err(McError::InvalidArgument);
         }
-        let history = history_of(pred_hist);
-        CarriedState {
-            answer: CarryAnswer::Carried,
-            state: McDecodeState {
-                pred_hist: history,
-                layout_len,
-                layout,
-                accepted: [accepted, 0, 0, 0, 0, 0, 0, 0],
-            },
-        }
+        let Ok(pred_hist) = <[f64; 576]>::try_from(pred_hist) else {
+            return Err(McError::InvalidArgument);
+        };
+        Ok(McDecodeState {
+            pred_hist,
+            layout_len: held.count,
+            layout: held.layout,
+            accepted: [accepted, 0, 0, 0, 0, 0, 0, 0],
+        })
     }
 }

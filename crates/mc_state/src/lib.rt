@@ -8,11 +8,14 @@ mod carry;
 mod convert;
 mod desk;
 mod held;
+mod loan;
 mod packing;
 mod state;
 
+pub use carry::carry_mc_state;
 pub use desk::tallied;
-pub use held::{channel_count, held_fits, layout_after, layout_follows};
+pub use held::{HeldLayout, channel_count};
+pub use loan::{BitString, Buffers, Lent};
 pub use packing::pack;
 
 // What a decoder keeps from frame to frame.
@@ -29,34 +32,17 @@ pub struct McDecodeState {
     pub accepted: [u32; 8],
 }
 
-// The bits that head and payload use and how many group codes have an excess, or why the frame is refused.
-#[derive(Clone, Copy)]
-pub enum McAnswer {
-    Accepted {
-        head_bits: usize,
-        payload_bits: usize,
-        excess_codes: u32,
-    },
-    Refused(McError),
+// What an accepted frame answers: the bits that head and payload use, and how many group codes have an excess.
+#[derive(Clone, Copy, Debug, PartialEq, Eq)]
+pub struct Accepted {
+    pub head_bits: usize,
+    pub payload_bits: usize,
+    pub excess_codes: u32,
 }
 
-// The answer, and the state after it.
+// The answer, and the state after it: refusal 5 stores the history.
 #[derive(Clone, Copy)]
 pub struct Framed {
-    pub answer: McAnswer,
-    pub state: McDecodeState,
-}
-
-// Whether a state was carried or converted, or why not.
-#[derive(Clone, Copy)]
-pub enum CarryAnswer {
-    Carried,
-    Refused(McError),
-}
-
-// The answer, and the state after it.
-#[derive(Clone, Copy)]
-pub struct CarriedState {
-    pub answer: CarryAnswer,
+    pub answer: Result<Accepted, McError>,
     pub state: McDecodeState,
 }

@@ -2,22 +2,19 @@
 ghost use Rattle.std.specs.Prelude.{◌≡◌};
 ghost use Rattle.mc_state.specs.Answer.{outcome_of, packed};
 
-use crate::McAnswer;
+use crate::Accepted;
+use mc_error::McError;
 
-pub fn pack(answer: McAnswer) -> u64
+pub fn pack(answer: Result<Accepted, McError>) -> u64
     ensures { result ≡ packed (outcome_of answer) }
 {
     match answer {
-        McAnswer::Accepted {
-            head_bits,
-            payload_bits,
-            excess_codes,
-        } => {
-            (head_bits % 16777216) as u64 * 256
-                + (payload_bits % 1048576) as u64 * 4294967296
-                + (excess_codes % 4096) as u64 * 4503599627370496
+        Ok(a) => {
+            (a.head_bits % 16777216) as u64 * 256
+                + (a.payload_bits % 1048576) as u64 * 4294967296
+                + (a.excess_codes % 4096) as u64 * 4503599627370496
         }
-        McAnswer::Refused(e) => {
+        Err(e) => {
             e.number() as u64 + (e.group() % 16777216) as u64 * 256 + e.code() as u64 * 4294967296
         }
     }

@@ -9,6 +9,7 @@ impl McDecodeState {
     pub const PRED_HISTORY: usize = 576;
 
     // A fresh state.
+    #[tactic(auto, unfolding(crate::specs::Frame::fresh))]
     pub fn new() -> McDecodeState
         ensures { result ≡ fresh }
     {

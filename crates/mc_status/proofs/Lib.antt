@@ -1,1 +1,1 @@
-pub mod StatusWalk
+pub mod StatusLaws

@@ -3,4 +3,4 @@
 
 mod status;
 
-pub use status::{StatusRead, first_forbidden, read_status};
+pub use status::{first_forbidden, read_status};

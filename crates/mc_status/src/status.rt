@@ -1,195 +1,115 @@
 // mc_composite_status_info() (ISO/IEC 13818-3, 2.5.1.15).
-ghost use Rattle.std.specs.Prelude.{◌≡◌, cond, ◌≤◌, ◌<◌};
-ghost use Rattle.cursor.specs.Cursor.{run_from};
-ghost use Rattle.cursor.specs.Ran.{Ran};
-ghost use Rattle.bits.specs.Syntax.{times};
-ghost use Rattle.mc_config.specs.Config.{pair_of};
+ghost use Rattle.std.specs.Prelude.{◌≡◌, cond, ◌≤◌};
+ghost use Rattle.bit_reader.specs.Reads.{Reads};
 ghost use Rattle.mc_crosstalk.specs.Crosstalk.{predictors_of};
-ghost use Rattle.mc_fields.specs.Head.{tc_allocation, dyn_cross, mode_at, predsi_at, prediction, first_forbidden, check_modes, mc_composite_status_info};
+ghost use Rattle.mc_fields.specs.Head.{tc_allocation, dyn_cross, mode_at, prediction, forbidden_group, mc_composite_status_info};
 
-use cursor::{Cursor, read};
+use bit_reader::BitReader;
 use mc_config::McConfig;
 use mc_crosstalk::dyn_cross_sources;
+use mc_error::McError;
 use mc_fields::{McStatus, bits_if};
 use mc_predictors::npred_for;
 
-#[derive(Clone, Copy)]
-pub struct TcRead {
-    pub cursor: Cursor,
-    pub table: [u8; 12],
-}
-
 // tc_allocation of the twelve groups: read once for all, or for each.
-pub fn read_tc_allocation(bytes: &[u8], limit: usize, c: Cursor, once: bool, bits: usize) -> TcRead
+pub fn read_tc_allocation(
+    reader: &mut BitReader<'_>,
+    once: bool,
+    bits: usize,
+) -> Result<[u8; 12], McError>
     requires { bits ≤ 8 }
-    ensures { Ran bytes.now limit c (tc_allocation once bits) result.cursor result.table }
+    ensures { Reads reader.old (tc_allocation once bits) result reader.new }
 {
     if once {
-        let all = read(bytes, limit, c, bits);
-        return TcRead {
-            cursor: all,
-            table: [all.value as u8; 12],
-        };
+        return Ok([reader.read(bits)? as u8; 12]);
     }
     let mut table = [0u8; 12];
-    let mut cursor = c;
-    let mut g: usize = 0;
-    while g < McConfig::GROUPS {
-        cursor = read(bytes, limit, cursor, bits);
-        table[g] = cursor.value as u8;
-        g += 1;
+    for allocation in table.iter_mut() {
+        *allocation = reader.read(bits)? as u8;
     }
-    TcRead { cursor, table }
+    Ok(table)
 }
 
-#[derive(Clone, Copy)]
-pub struct CrossRead {
-    pub cursor: Cursor,
-    pub table: [u8; 24],
-}
-
-// dyn_cross_mode and dyn_second_stereo of the twelve groups.
+// dyn_cross_mode and dyn_second_stereo of the twelve groups. By index: tried chunks_exact_mut, whose loop leaves a proof no element.
 pub fn read_dyn_cross(
-    bytes: &[u8],
-    limit: usize,
-    c: Cursor,
+    reader: &mut BitReader<'_>,
     mode_bits: usize,
     second_bits: usize,
-) -> CrossRead
+) -> Result<[u8; 24], McError>
     requires { (mode_bits ≤ 8) × (second_bits ≤ 8) }
-    ensures { Ran bytes.now limit c (dyn_cross mode_bits second_bits) result.cursor result.table }
+    ensures { Reads reader.old (dyn_cross mode_bits second_bits) result reader.new }
 {
     let mut table = [0u8; 24];
-    let mut cursor = c;
-    let mut g: usize = 0;
-    while g < McConfig::GROUPS {
-        let mode = read(bytes, limit, cursor, mode_bits);
-        cursor = read(bytes, limit, mode, second_bits);
-        table[2 * g] = mode.value as u8;
-        table[2 * g + 1] = cursor.value as u8;
-        g += 1;
+    for g in 0..McConfig::GROUPS {
+        table[2 * g] = reader.read(mode_bits)? as u8;
+        table[2 * g + 1] = reader.read(second_bits)? as u8;
     }
-    CrossRead { cursor, table }
-}
-
-#[derive(Clone, Copy)]
-pub struct PredictionRead {
-    pub cursor: Cursor,
-    pub table: [u8; 56],
-}
-
-// predsi of the n predictors of group g, into the table so far.
-fn read_predsi(
-    bytes: &[u8],
-    limit: usize,
-    c: Cursor,
-    g: usize,
-    n: usize,
-    so_far: [u8; 56],
-) -> PredictionRead
-    requires { (g < 8) × (n ≤ 6) }
-    ensures { Ran bytes.now limit c (times n 0 (predsi_at g) so_far) result.cursor result.table }
-{
-    let mut table = so_far;
-    let mut cursor = c;
-    let mut px: usize = 0;
-    while px < n {
-        cursor = read(bytes, limit, cursor, 2);
-        table[7 * g + 1 + px] = cursor.value as u8;
-        px += 1;
-    }
-    PredictionRead { cursor, table }
+    Ok(table)
 }
 
 // The predictors of a group whose flag is set; else none.
 fn predictors_if(flag: bool, pair: u32, mode: u8) -> usize
-    ensures { result ≡ cond flag (predictors_of pair mode) 0 }
+    ensures value { result ≡ cond flag (predictors_of pair mode) 0 }
+    ensures most { result ≤ 6 }
 {
     if flag { npred_for(pair, mode) } else { 0 }
 }
 
-// mc_prediction of groups 0 to 7, and where it is set predsi of each predictor.
+// mc_prediction of groups 0 to 7, and where it is set predsi of each predictor. By index, as read_dyn_cross.
 pub fn read_prediction(
-    bytes: &[u8],
-    limit: usize,
-    c: Cursor,
+    reader: &mut BitReader<'_>,
     on: bool,
     pair: u32,
     dyn_cross: &[u8; 24],
-) -> PredictionRead
-    ensures { Ran bytes.now limit c (prediction on (λ g. predictors_of pair (mode_at dyn_cross.now g))) result.cursor result.table }
+) -> Result<[u8; 56], McError>
+    ensures { Reads reader.old (prediction on (λ g. predictors_of pair (mode_at dyn_cross.now g))) result reader.new }
 {
     let mut table = [0u8; 56];
-    let mut cursor = c;
-    let mut g: usize = 0;
-    while g < McConfig::PREDICTED_GROUPS {
-        let flag = read(bytes, limit, cursor, bits_if(on, 1));
-        table[7 * g] = flag.value as u8;
-        let predictors = predictors_if(flag.value == 1, pair, dyn_cross[2 * g]);
-        let counts = read_predsi(bytes, limit, flag, g, predictors, table);
-        cursor = counts.cursor;
-        table = counts.table;
-        g += 1;
-    }
-    PredictionRead { cursor, table }
-}
-
-// The lowest group whose code is not listed; 12 where all are.
-pub fn first_forbidden(pair: u32, dyn_cross: &[u8; 24]) -> usize
-    ensures { result ≡ first_forbidden pair dyn_cross.now 12 0 }
-{
-    let mut g: usize = 0;
-    while g < McConfig::GROUPS {
-        let sources = dyn_cross_sources(pair, dyn_cross[2 * g]);
-        if !sources.listed {
-            return g;
+    for g in 0..McConfig::PREDICTED_GROUPS {
+        let flag = reader.read(bits_if(on, 1))?;
+        table[7 * g] = flag as u8;
+        for px in 0..predictors_if(flag == 1, pair, dyn_cross[2 * g]) {
+            table[7 * g + 1 + px] = reader.read(2)? as u8;
         }
-        g += 1;
     }
-    g
+    Ok(table)
 }
 
-#[derive(Clone, Copy)]
-pub struct StatusRead {
-    pub cursor: Cursor,
-    pub status: McStatus,
-}
-
-// All of mc_composite_status_info() but the test of the codes, which comes after its last bit.
-pub fn read_status(bytes: &[u8], limit: usize, c: Cursor, config: McConfig) -> StatusRead
-    requires { (config.tc_allocation_bits ≤ 8) × (config.dyn_cross_bits ≤ 8) }
-    ensures { run_from bytes.now limit c (mc_composite_status_info config)
-        ≡ run_from bytes.now limit result.cursor (check_modes (pair_of config) result.status.dyn_cross result.status) }
+// The lowest group whose code is not listed.
+pub fn first_forbidden(pair: u32, dyn_cross: &[u8; 24]) -> Option<usize>
+    ensures { result ≡ forbidden_group pair dyn_cross.now }
 {
-    let once = read(bytes, limit, c, 1);
-    let cross = read(bytes, limit, once, 1);
-    let predict = read(bytes, limit, cross, 1);
-    let tc_sbgr_select = once.value == 1;
-    let tc_bits = config.tc_allocation_bits;
-    let tc = read_tc_allocation(bytes, limit, predict, tc_sbgr_select, tc_bits);
-    let tc_allocation = tc.table;
-    let dyn_cross_on = cross.value == 1;
-    let lr = read(bytes, limit, tc.cursor, bits_if(dyn_cross_on, 1));
+    (0..McConfig::GROUPS).find(|&g| dyn_cross_sources(pair, dyn_cross[2 * g]).is_none())
+}
+
+// All of mc_composite_status_info(); a forbidden code is refused after its last bit.
+pub fn read_status(reader: &mut BitReader<'_>, config: McConfig) -> Result<McStatus, McError>
+    requires { (config.tc_allocation_bits ≤ 8) × (config.dyn_cross_bits ≤ 8) }
+    ensures { Reads reader.old (mc_composite_status_info config) result reader.new }
+{
+    let tc_sbgr_select = reader.read(1)? == 1;
+    let dyn_cross_on = reader.read(1)? == 1;
+    let mc_prediction_on = reader.read(1)? == 1;
+    let tc_allocation = read_tc_allocation(reader, tc_sbgr_select, config.tc_allocation_bits)?;
+    let dyn_cross_lr = reader.read(bits_if(dyn_cross_on, 1))? == 1;
     let mode_bits = bits_if(dyn_cross_on, config.dyn_cross_bits);
     let second_bits = bits_if(dyn_cross_on, bits_if(config.second_stereo, 1));
-    let modes = read_dyn_cross(bytes, limit, lr, mode_bits, second_bits);
-    let at = modes.cursor;
-    let dyn_cross = modes.table;
-    let mc_prediction_on = predict.value == 1;
+    let dyn_cross = read_dyn_cross(reader, mode_bits, second_bits)?;
     let pair = config.pair();
-    let counts = read_prediction(bytes, limit, at, mc_prediction_on, pair, &dyn_cross);
-    let cursor = counts.cursor;
-    let mc_prediction = counts.table;
-    StatusRead {
-        cursor,
-        status: McStatus {
-            tc_sbgr_select,
-            dyn_cross_on,
-            mc_prediction_on,
-            tc_allocation,
-            dyn_cross_lr: lr.value == 1,
-            dyn_cross,
-            mc_prediction,
-        },
+    let mc_prediction = read_prediction(reader, mc_prediction_on, pair, &dyn_cross)?;
+    if let Some(sbgr) = first_forbidden(pair, &dyn_cross) {
+        return Err(McError::ForbiddenDynCrossMode {
+            sbgr,
+            mode: dyn_cross[2 * sbgr],
+        });
     }
+    Ok(McStatus {
+        tc_sbgr_select,
+        dyn_cross_on,
+        mc_prediction_on,
+        tc_allocation,
+        dyn_cross_lr,
+        dyn_cross,
+        mc_prediction,
+    })
 }

@@ -1,19 +1,23 @@
--- Each way to decide of a payload says what the definition says, and what an accepted payload is fit for.
-use Rattle.std.specs.Prelude.{◌≡◌, refl, Bool, true, false, not, ◌&&◌, cond, List, ℕ, ◌/◌, ◌%◌, ◌<◌, eqb, get_or}
+-- Each way to decide of a payload says what the definition says, which refusals it can end in, and what an accepted payload is fit for.
+use Rattle.std.specs.Prelude.{◌≡◌, refl, Result, Bool, true, false, ◌&&◌, cond, List, ℕ, ◌/◌, ◌%◌, ◌<◌, eqb, get_or}
 use Rattle.std.proofs.Common.{sym, inl, inr, ⊎_elim, arith}
 use Rattle.std.proofs.Math.Path.{ap}
-use borrow.Author.Tests.{eqb-false, not-true, not-false}
+use Rattle.std.specs.Result.{IsErrAnd}
+use Rattle.std.proofs.lemmas.Result.{err_from_is_err_and}
+use Rattle.mc_error.specs.declared.McError.{McError}
+use Rattle.mc_error.specs.Error.{refusal_of}
+use Rattle.mc_codes.specs.declared.payload.PayloadCodes.{PayloadCodes}
+use Rattle.mc_codes.specs.Outcome.{outcome_of}
+use borrow.Author.Tests.{eqb-false}
 use Rattle.bits.specs.Syntax.{Refusal, plain, Outcome, accepted, refused, run}
 use Rattle.bits.proofs.Yields.{accepted-yields, refused-yields}
 use Rattle.mc_fields.specs.Lent.{string_fits}
 use Rattle.mc_payload.specs.declared.McSettings.{McSettings}
-use Rattle.mc_codes.specs.declared.payload.PayloadCodes.{PayloadCodes}
 use Rattle.mc_places.specs.declared.places.Places.{Places}
 use Rattle.mc_payload.specs.Places.{own_at, steps_of, own_of}
 use Rattle.mc_places.specs.PlacesBy.{places_of}
 use Rattle.mc_payload.specs.Payload.{Codes, payload}
 use Rattle.mc_payload.proofs.PayloadYields.{payload-yields}
-use Rattle.mc_codes.specs.Outcome.{outcome_of}
 use Rattle.mc_unpack.proofs.RecordLaws.{samples-fit, lfe-fits}
 use Rattle.mc_payload.specs.Unpack.{steps_fit, loan_fits, allocations_fit, payload_of, Loan, settings_of, unpack_of}
 use Rattle.mc_unpack.specs.Writable.{Writable}
@@ -30,44 +34,54 @@ module _ (s : McSettings) (p : Places) (e : p ≡ places_of s) where
   unfolding places_of
   steps-table = ap (λ (q : Places). q.steps) e
 
-  module _ (bytes : List ℕ) (bits : ℕ) (codes : PayloadCodes) (b : Bool) (eb : b ≡ allocations_fit s) where
-    pub settled-refused : not b ≡ true → codes.cursor.err ≡ 8 → outcome_of codes ≡ settled_of s bytes bits
-    unfolding outcome_of settled_of
-    settled-refused t z = rw (z, ← eb, not-true b t)
+  -- what was read for these places
+  pub settled-read : (bytes : List ℕ) (bits : ℕ) (o : Outcome Codes) → allocations_fit s ≡ true
+      → run (payload s.header.multi_lingual_layer3 s.lfe_allocation s.status.mc_prediction p.steps p.own) bytes bits 0 ≡ o → o ≡ settled_of s bytes bits
+  unfolding settled_of payload_of
+  settled-read bytes bits o t r = rw (t, ← own-table, ← steps-table) (sym r)
 
-    pub settled-read : not b ≡ false
-        → run (payload s.header.multi_lingual_layer3 s.lfe_allocation s.status.mc_prediction p.steps p.own) bytes bits 0 ≡ outcome_of codes
-        → outcome_of codes ≡ settled_of s bytes bits
-    unfolding settled_of payload_of
-    settled-read t r = rw (← eb, not-false b t, ← own-table, ← steps-table) (sym r)
+pub settled-refused : (s : McSettings) (bytes : List ℕ) (bits : ℕ) → allocations_fit s ≡ false → refused (plain 8) ≡ settled_of s bytes bits
+unfolding settled_of
+settled-refused s bytes bits t = rw t
+
+-- what `?` returns where it was refused
+pub settled-returned : (x : Result (Unit {0}) McError) (y : McError) → IsErrAnd x (λ z. z ≡ y) → {o : Outcome Codes} → refused (refusal_of y) ≡ o → (codes : PayloadCodes) → outcome_of x codes ≡ o
+settled-returned x y h e codes = let p = err_from_is_err_and x h in rw (p.1, p.2) e
 
 -- ---- refused
 
-plain-number : (n m : ℕ) → plain n ≡ plain m → n ≡ m
-plain-number n m e = ap (λ (r : Refusal). r.number) e
-
-pub run-numbered : (s : McSettings) (bytes : List ℕ) (bits n : ℕ) → run (payload_of s) bytes bits 0 ≡ refused (plain n) → Numbered n
+run-refused : (s : McSettings) (bytes : List ℕ) (bits : ℕ) (x : Refusal) → run (payload_of s) bytes bits 0 ≡ refused x → Numbered x.number
 unfolding payload_of
-run-numbered s bytes bits n e =
-    ⊎_elim (λ q. inl (plain-number n 1 q))
-    (λ h. ⊎_elim (λ q. inr (inl (plain-number n 3 q))) (λ q. inr (inr (inl (plain-number n 4 q)))) h)
-    (refused-yields (payload-yields _ _ _ _ _) bytes bits 0 (plain n) e)
+run-refused s bytes bits x e =
+    ⊎_elim (λ q. inl (ap (λ (r : Refusal). r.number) q))
+    (λ h. ⊎_elim (λ q. inr (inl (ap (λ (r : Refusal). r.number) q))) (λ q. inr (inr (inl (ap (λ (r : Refusal). r.number) q)))) h)
+    (refused-yields (payload-yields _ _ _ _ _) bytes bits 0 x e)
+
+pub settled-number : (s : McSettings) (bytes : List ℕ) (bits : ℕ) (x : Refusal) → settled_of s bytes bits ≡ refused x → Numbered x.number
+unfolding settled_of
+settled-number s bytes bits x = go (allocations_fit s)
+  where
+    go : (t : Bool) → cond t (run (payload_of s) bytes bits 0) (refused (plain 8)) ≡ refused x → Numbered x.number
+    go true e = run-refused s bytes bits x e
+    go false e = let q : plain 8 ≡ x = cc in inr (inr (inr (inr (sym (ap (λ (r : Refusal). r.number) q)))))
+
+pub unpack-number : (l : Loan) (bytes : List ℕ) (bits : ℕ) (x : Refusal) → unpack_of l bytes bits ≡ refused x → Numbered x.number
+unfolding unpack_of settled_of
+unpack-number l bytes bits x = go (string_fits bytes bits && loan_fits l.reading l.rate l.base_channels l.lfe l.steps l.base_steps)
+  where
+    go : (t : Bool) → cond t (settled_of (settings_of l) bytes bits) (refused (plain 6)) ≡ refused x → Numbered x.number
+    go true e = settled-number (settings_of l) bytes bits x e
+    go false e = let q : plain 6 ≡ x = cc in inr (inr (inr (inl (sym (ap (λ (r : Refusal). r.number) q)))))
+
+-- the same of a refusal by its number
+pub run-numbered : (s : McSettings) (bytes : List ℕ) (bits n : ℕ) → run (payload_of s) bytes bits 0 ≡ refused (plain n) → Numbered n
+run-numbered s bytes bits n = run-refused s bytes bits (plain n)
 
 pub settled-numbered : (s : McSettings) (bytes : List ℕ) (bits n : ℕ) → settled_of s bytes bits ≡ refused (plain n) → Numbered n
-unfolding settled_of
-settled-numbered s bytes bits n = go (allocations_fit s)
-  where
-    go : (t : Bool) → cond t (run (payload_of s) bytes bits 0) (refused (plain 8)) ≡ refused (plain n) → Numbered n
-    go true e = run-numbered s bytes bits n e
-    go false e = let q : plain 8 ≡ plain n = cc in inr (inr (inr (inr (sym (plain-number 8 n q)))))
+settled-numbered s bytes bits n = settled-number s bytes bits (plain n)
 
 pub unpack-numbered : (l : Loan) (bytes : List ℕ) (bits n : ℕ) → unpack_of l bytes bits ≡ refused (plain n) → Numbered n
-unfolding unpack_of settled_of
-unpack-numbered l bytes bits n = go (string_fits bytes bits && loan_fits l.reading l.rate l.base_channels l.lfe l.steps l.base_steps)
-  where
-    go : (t : Bool) → cond t (settled_of (settings_of l) bytes bits) (refused (plain 6)) ≡ refused (plain n) → Numbered n
-    go true e = settled-numbered (settings_of l) bytes bits n e
-    go false e = let q : plain 6 ≡ plain n = cc in inr (inr (inr (inl (sym (plain-number 6 n q)))))
+unpack-numbered l bytes bits n = unpack-number l bytes bits (plain n)
 
 -- ---- accepted
 

@@ -1,11 +1,10 @@
--- What an unpacking call answers, and what it leaves in the tables beside the answer and in both buffers.
-use Rattle.std.specs.Prelude.{Bool, ◌&&◌, cond, List, ℕ, eqb, Float, length, replicate}
+-- What an unpacking call answers, and what it leaves in both buffers.
+use Rattle.std.specs.Prelude.{Bool, ◌&&◌, cond, List, ℕ, eqb, Float, length, Result, Ok, Err}
 use Rattle.bits.specs.Syntax.{Outcome, plain, accepted, refused}
+use Rattle.mc_error.specs.declared.McError.{McError}
 use Rattle.mc_error.specs.Error.{refusal_of}
 use Rattle.mc_payload.specs.declared.McSettings.{McSettings}
 use Rattle.mc_unpack.specs.declared.entry.Unpacked.{Unpacked}
-use Rattle.mc_unpack.specs.declared.entry.UnpackAnswer.{UnpackAnswer}
-use Rattle.mc_unpack.specs.declared.entry.UnpackAnswer.TheVariants.{Accepted, Refused}
 use Rattle.mc_payload.specs.Payload.{Codes}
 use Rattle.mc_payload.specs.Record.{raw_of, lfe_of, excesses_of, excess_codes}
 use Rattle.mc_payload.specs.Unpack.{Loan, settings_of, unpack_of}
@@ -20,28 +19,24 @@ tables_by c excesses = (c.0, (c.1.0, (c.1.1.0, (c.1.1.1.0, excesses))))
 abbrev pub tables_of : McSettings → Codes → Tables
 tables_of s c = tables_by c (excesses_of s c)
 
-abbrev pub no_tables : Tables
-no_tables = (replicate 96 0, (replicate 192 0, (0, (replicate 288 0, replicate 1152 0))))
-
 -- ---- what is left
 
 pub record After : Type 0 where
-  -- accepted, with the number of group codes that have an excess and the used bits; or refused, with the refusal's number
+  -- accepted, with the tables, the number of group codes that have an excess and the used bits; or refused
   pub outcome : Outcome (Tables × ℕ)
-  pub tables : Tables
   pub raw : List Float
   pub lfe : List Float
-
--- what the call's answer says, beside the buffers
-abbrev pub answered : UnpackAnswer → Tables → Outcome (Tables × ℕ)
-answered (Accepted used excess_codes) t = accepted (t, excess_codes) used
-answered (Refused e) t = refused (refusal_of e)
 
 abbrev pub values_of : Unpacked → Tables
 values_of r = (r.scfsi, (r.predictors, (r.lf_scalefactor, (r.scalefactors, r.excesses))))
 
-abbrev pub after_of : Unpacked → List Float → List Float → After
-after_of r raw lfe = record { outcome = answered r.answer (values_of r); tables = values_of r; raw = raw; lfe = lfe }
+-- what the call's answer says, beside the buffers
+abbrev pub answered : Result Unpacked McError → Outcome (Tables × ℕ)
+answered (Ok u) = accepted (values_of u, u.excess_codes) u.payload_bits
+answered (Err e) = refused (refusal_of e)
+
+abbrev pub after_of : Result Unpacked McError → List Float → List Float → After
+after_of r raw lfe = record { outcome = answered r; raw = raw; lfe = lfe }
 
 -- what it has to say: buffers of any other length are a wrong loan, refusal 6
 abbrev pub room_fits : ℕ → ℕ → Bool
@@ -53,8 +48,8 @@ checked_of l bytes bits raw lfe = cond (room_fits raw lfe) (unpack_of l bytes bi
 -- the record's tables and samples; a refusal leaves both buffers as they were
 abbrev pub leaves : McSettings → List Float → List Float → Outcome Codes → After
 leaves s raw lfe (accepted c used) =
-    record { outcome = accepted (tables_of s c, excess_codes (excesses_of s c)) used; tables = tables_of s c; raw = raw_of s c; lfe = lfe_of s.lfe_allocation c }
-leaves s raw lfe (refused x) = record { outcome = refused x; tables = no_tables; raw = raw; lfe = lfe }
+    record { outcome = accepted (tables_of s c, excess_codes (excesses_of s c)) used; raw = raw_of s c; lfe = lfe_of s.lfe_allocation c }
+leaves s raw lfe (refused x) = record { outcome = refused x; raw = raw; lfe = lfe }
 
 unfoldable pub unpack_call : Loan → List ℕ → ℕ → List Float → List Float → After
 unpack_call l bytes bits raw lfe = leaves (settings_of l) raw lfe (checked_of l bytes bits (length raw) (length lfe))

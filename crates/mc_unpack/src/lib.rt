@@ -3,4 +3,4 @@
 
 mod entry;
 
-pub use entry::{McPayload, UnpackAnswer, Unpacked, error_of, read_mc_payload, unpack};
+pub use entry::{McPayload, Unpacked, read_mc_payload, unpack};

@@ -8,32 +8,27 @@ fn group_delays(codes: &[u8; 192], g: usize) -> [u8; 6]
     requires { g < 8 }
     ensures { result ≡ delays_in codes.now g }
 {
-    let mut row = [0u8; 6];
-    for px in 0usize..6 {
-        row[px] = codes[4 * (6 * g + px)];
-    }
-    row
+    std::array::from_fn(|px| codes[4 * (6 * g + px)])
 }
 
 // By group and predictor.
 pub fn delays(codes: &[u8; 192]) -> [[u8; 6]; 8]
     ensures { result ≡ delays_from codes.now }
 {
-    let none = [0u8; 6];
-    let mut table = [none; 8];
-    for g in 0usize..8 {
-        let row = group_delays(codes, g);
-        table[g] = row;
+    let mut table = [[0; 6]; 8];
+    for (g, row) in table.iter_mut().enumerate() {
+        *row = group_delays(codes, g);
     }
     table
 }
 
 // Coefficient k of predictor q, which has n; +0 past them.
+#[tactic(auto, unfolding(crate::specs::Values::coef_by))]
 fn coef_by(codes: &[u8; 192], n: u8, q: usize, k: usize) -> f64
     requires { (q < 48) × (k < 3) }
     ensures { result ≡ coef_by codes.now n q k }
 {
-    if k < n as usize {
+    if k < usize::from(n) {
         requant::pred_coef(codes[4 * q + 1 + k])
     } else {
         0.0
@@ -44,9 +39,9 @@ fn predictor_coefs(codes: &[u8; 192], n: u8, q: usize) -> [f64; 3]
     requires { q < 48 }
     ensures { result ≡ tab (coef_by codes.now n q) 3 }
 {
-    let mut row = [0.0f64; 3];
-    for k in 0usize..3 {
-        row[k] = coef_by(codes, n, q, k);
+    let mut row = [0.0; 3];
+    for (k, coef) in row.iter_mut().enumerate() {
+        *coef = coef_by(codes, n, q, k);
     }
     row
 }
@@ -56,11 +51,9 @@ fn group_coefs(predsi: &[u8; 56], codes: &[u8; 192], g: usize) -> [[f64; 3]; 6]
     requires { g < 8 }
     ensures { result ≡ coefs_in predsi.now codes.now g }
 {
-    let none = [0.0f64; 3];
-    let mut rows = [none; 6];
-    for px in 0usize..6 {
-        let row = predictor_coefs(codes, predsi[7 * g + 1 + px], 6 * g + px);
-        rows[px] = row;
+    let mut rows = [[0.0; 3]; 6];
+    for (px, row) in rows.iter_mut().enumerate() {
+        *row = predictor_coefs(codes, predsi[7 * g + 1 + px], 6 * g + px);
     }
     rows
 }
@@ -69,12 +62,9 @@ fn group_coefs(predsi: &[u8; 56], codes: &[u8; 192], g: usize) -> [[f64; 3]; 6]
 pub fn coefs(predsi: &[u8; 56], codes: &[u8; 192]) -> [[[f64; 3]; 6]; 8]
     ensures { result ≡ coefs_from predsi.now codes.now }
 {
-    let none = [0.0f64; 3];
-    let rows = [none; 6];
-    let mut table = [rows; 8];
-    for g in 0usize..8 {
-        let group = group_coefs(predsi, codes, g);
-        table[g] = group;
+    let mut table = [[[0.0; 3]; 6]; 8];
+    for (g, rows) in table.iter_mut().enumerate() {
+        *rows = group_coefs(predsi, codes, g);
     }
     table
 }

@@ -1,5 +1,5 @@
 -- What becomes of a frame of a file: the state is carried where the frame asks for it, then comes the frame call on buffers of zeros. Definitions only.
-use Rattle.std.specs.Prelude.{cond, List, ℕ, eqb, ltb, replicate, set}
+use Rattle.std.specs.Prelude.{cond, List, ℕ, Bool, true, false, eqb, ltb, replicate, set}
 use Rattle.bits.specs.Syntax.{accepted, refused}
 use Rattle.floats.specs.Binary64.{zero64}
 use Rattle.mc_state.specs.Answer.{buffers_from}
@@ -11,21 +11,20 @@ use Rattle.frame_file.specs.declared.numbers.Numbers.{Numbers}
 use Rattle.frame_body.specs.Lent.{lent_in}
 
 -- a refused carrying leaves the state
-unfoldable pub before_frame : Numbers → McDecodeState → McDecodeState
+abbrev pub before_frame : Numbers → McDecodeState → McDecodeState
 before_frame n state = cond (eqb n.carried 1) (carried_over state).state state
 
-unfoldable pub after_frame : Numbers → List ℕ → McDecodeState → After
+abbrev pub after_frame : Numbers → List ℕ → McDecodeState → After
 after_frame n body state = frame_of (lent_in n body) (buffers_from (replicate 3456 zero64) (replicate 3456 zero64) (replicate 5760 zero64) (replicate 12 zero64)) (before_frame n state)
 
--- 0 for an accepted frame, 1 for a refused one
-abbrev pub kind_of : Answer → ℕ
-kind_of (accepted (head_bits, excess_codes) payload_bits) = 0
-kind_of (refused r) = 1
+abbrev pub is_accepted : Answer → Bool
+is_accepted (accepted (head_bits, excess_codes) payload_bits) = true
+is_accepted (refused r) = false
 
--- the state that the next frame follows on, what became of this one, and its desk
+-- what became of a frame, and its desk; the next one follows on the state `a.state`
 abbrev pub step_of : Numbers → After → Step
-step_of n a = record { state = a.state; kind = kind_of a.answer; desk = n.desk }
+step_of n a = record { accepted = is_accepted a.answer; desk = n.desk }
 
 -- the desks that frames name, with one more; above 7 there is none
-abbrev pub marked_of : List ℕ → ℕ → List ℕ
-marked_of desks desk = cond (ltb desk 8) (set desks desk 1) desks
+abbrev pub marked_of : List Bool → ℕ → List Bool
+marked_of desks desk = cond (ltb desk 8) (set desks desk true) desks

@@ -1,268 +1,173 @@
 // Reading standard input, frame after frame. No contract can say what is read.
 ghost use Rattle.std.specs.Prelude.{◌≡◌, ◌≤◌, IfOk, length};
-ghost use Rattle.frame_file.specs.File.{fault_of};
-ghost use Rattle.frame_body.specs.Lent.{Whole};
 ghost use Rattle.mcread.specs.Step.{before_frame, after_frame, step_of, marked_of};
 
+use crate::bad_file::{BadFile, Stop};
 use crate::report;
-use encoding::{u8_at, u32_at};
-use frame_body::{decode_body, first_state, layout_in, second_state};
-use frame_file::{
-    Numbers, body_bytes, fault_of, number_bytes, numbers_of, opening_fault, version_of,
-};
-use mc_state::{CarryAnswer, McAnswer, McDecodeState};
+use frame_body::{Body, first_state, second_state};
+use frame_file::{Frame, Opening, Version, numbers_of, opening_of};
+use mc_state::{Buffers, McDecodeState, carry_mc_state};
 use program_out::Out;
 use std::io;
 use std::io::Read;
 
-// What became of a frame.
-const ACCEPTED: u32 = 0;
-
-const REFUSED: u32 = 1;
-
-const BAD_FILE: u32 = 2;
-
-// The state after a frame, what became of the frame, and the desk that it names.
+// Whether a frame was accepted, and the desk that it names.
 #[derive(Clone, Copy)]
 struct Step {
-    state: McDecodeState,
-    kind: u32,
+    accepted: bool,
     desk: u32,
 }
 
-// Reads until `buf` is full or the input ends, and says how many bytes it read.
+// Reads until `buf` is full or the input ends, and says how many bytes it read, which std's `read_exact` does not.
 fn read_full(input: &mut impl Read, buf: &mut [u8]) -> io::Result<usize>
     ensures { IfOk result (λ n. n ≤ length buf.new) }
 {
-    let mut done: usize = 0;
+    let mut done = 0;
     while done < buf.len() {
-        let n = input.read(&mut buf[done..])?;
-        if n == 0 {
-            break;
+        match input.read(&mut buf[done..])? {
+            0 => break,
+            n => done += n,
         }
-        done += n;
     }
     Ok(done)
 }
 
-// Reads as many bytes as `buf` holds; false where the input ends before.
-fn read_whole(input: &mut impl Read, buf: &mut [u8]) -> io::Result<bool> {
-    let want = buf.len();
-    Ok(read_full(input, buf)? == want)
+// Reads as many bytes as `buf` holds; where the input ends before, the file is bad by `cut`.
+fn read_whole(input: &mut impl Read, buf: &mut [u8], cut: BadFile) -> Result<(), Stop> {
+    if read_full(input, buf)? < buf.len() {
+        return Err(Stop::BadFile(cut));
+    }
+    Ok(())
 }
 
 // Carries the state where the frame asks for it, and prints that.
-fn before_frame(
-    out: &mut Out<impl Print>,
-    state: McDecodeState,
-    number: u64,
-    n: Numbers,
-) -> McDecodeState
-    ensures { result ≡ before_frame n state }
+fn before_frame(out: &mut Out<impl Print>, state: &mut McDecodeState, number: u64, frame: Frame)
+    ensures { state.new ≡ before_frame frame.numbers state.old }
 {
-    if n.carried != 1 {
-        return state;
+    if frame.numbers.carried == 1 {
+        let carried = carry_mc_state(state);
+        report::put_carried(out, number, carried);
     }
-    let carried = state.carry();
-    let answer = carried.answer;
-    let next = carried.state;
-    report::put_carried(out, number, answer);
-    next
 }
 
 // Decodes a frame whose bytes were read, and prints it.
 fn decode_frame(
     out: &mut Out<impl Print>,
-    state: McDecodeState,
+    state: &mut McDecodeState,
     number: u64,
-    n: Numbers,
-    body: &[u8],
+    body: Body<'_>,
 ) -> Step
-    requires { Whole n body.now }
-    ensures { result ≡ step_of n (after_frame n body.now state) }
+    ensures next { state.new ≡ (after_frame body.entry.frame.numbers body.entry.bytes.now state.old).state }
+    ensures step { result ≡ step_of body.entry.frame.numbers (after_frame body.entry.frame.numbers body.entry.bytes.now state.old) }
 {
     let mut raw = [0.0f64; 3456];
     let mut work = [0.0f64; 3456];
     let mut output = [0.0f64; 5760];
     let mut lfe = [0.0f64; 12];
-    let before = before_frame(out, state, number, n);
-    let framed = decode_body(before, n, body, &mut raw, &mut work, &mut output, &mut lfe);
-    let answer = framed.answer;
-    let next = framed.state;
-    match answer {
-        McAnswer::Refused(e) => {
-            report::put_refused(out, number, e);
-            Step {
-                state: next,
-                kind: REFUSED,
-                desk: n.desk,
-            }
-        }
-        McAnswer::Accepted {
-            head_bits,
-            payload_bits,
-            excess_codes,
-        } => {
-            let layout = layout_in(n, body);
-            report::put_accepted(out, number, layout, head_bits, payload_bits, excess_codes);
-            report::put_values(out, n.lfe_allocation, layout, &lfe, &output);
-            Step {
-                state: next,
-                kind: ACCEPTED,
-                desk: n.desk,
-            }
-        }
+    before_frame(out, state, number, body.frame);
+    let mut buffers = Buffers {
+        raw: &mut raw,
+        work: &mut work,
+        output: &mut output,
+        lfe: &mut lfe,
+    };
+    let decoded = body.decode(state, &mut buffers);
+    report::put_decoded(out, number, body, decoded, &lfe, &output);
+    Step {
+        accepted: decoded.is_ok(),
+        desk: body.frame.numbers.desk,
     }
-}
-
-// Reads what follows the numbers of a frame.
-fn read_body(
-    input: &mut impl Read,
-    out: &mut Out<impl Print>,
-    state: McDecodeState,
-    number: u64,
-    n: Numbers,
-) -> io::Result<Step>
-    requires { fault_of n ≡ 0 }
-{
-    let mut space = [0u8; 53888];
-    let size = body_bytes(n);
-    if !read_whole(input, &mut space[..size])? {
-        report::put_frame_cut(out, number);
-        return Ok(Step {
-            state,
-            kind: BAD_FILE,
-            desk: 0,
-        });
-    }
-    Ok(decode_frame(out, state, number, n, &space[..size]))
 }
 
 fn read_frame(
     input: &mut impl Read,
     out: &mut Out<impl Print>,
-    state: McDecodeState,
-    version: u32,
+    state: &mut McDecodeState,
+    version: Version,
     number: u64,
-) -> io::Result<Step> {
+) -> Result<Step, Stop> {
     let mut first = [0u8; 32];
-    let size = number_bytes(version);
-    if !read_whole(input, &mut first[..size])? {
-        report::put_frame_cut(out, number);
-        return Ok(Step {
-            state,
-            kind: BAD_FILE,
-            desk: 0,
-        });
-    }
-    let n = numbers_of(version, &first[..size]);
-    let fault = fault_of(n);
-    if fault != 0 {
-        report::put_fault(out, number, n, fault);
-        return Ok(Step {
-            state,
-            kind: BAD_FILE,
-            desk: 0,
-        });
-    }
-    read_body(input, out, state, number, n)
+    let first = &mut first[..version.number_bytes()];
+    read_whole(input, first, BadFile::FrameCut(number))?;
+    let numbers = numbers_of(version, first);
+    let frame = Frame::try_from(numbers).map_err(|fault| BadFile::Frame(number, fault))?;
+    let mut space = [0u8; 53888];
+    let bytes = &mut space[..frame.body_bytes()];
+    read_whole(input, bytes, BadFile::FrameCut(number))?;
+    Ok(decode_frame(out, state, number, Body { frame, bytes }))
 }
 
-// One desk more that frames name; above 7 there is none.
-fn marked(desks: [u8; 8], desk: u32) -> [u8; 8]
-    ensures { result ≡ marked_of desks desk }
+// One desk more that frames name; above 7 there is none. By an `if`: with `get_mut`, which was tried, the proof did not close.
+fn mark(desks: &mut [bool; 8], desk: u32)
+    ensures { desks.new ≡ marked_of desks.old desk }
 {
-    let mut next = desks;
     let at = desk as usize;
-    if at < 8 {
-        next[at] = 1;
+    if at < desks.len() {
+        desks[at] = true;
     }
-    next
 }
 
-// Reads that many frames, and sees that nothing follows.
+// Reads all frames, and sees that nothing follows.
 fn read_frames(
     input: &mut impl Read,
     out: &mut Out<impl Print>,
-    first: McDecodeState,
-    version: u32,
-    frames: u32,
-) -> io::Result<()> {
-    let mut state = first;
-    let mut desks = [0u8; 8];
+    mut state: McDecodeState,
+    opening: Opening,
+) -> Result<(), Stop> {
+    let mut desks = [false; 8];
     let mut accepted: u32 = 0;
-    let mut refused: u32 = 0;
-    for k in 0..frames {
-        let step = read_frame(input, out, state, version, k as u64 + 1)?;
-        if step.kind == BAD_FILE {
-            return Ok(());
-        }
-        if step.kind == ACCEPTED {
+    for k in 0..opening.frames {
+        let step = read_frame(input, out, &mut state, opening.version, u64::from(k) + 1)?;
+        if step.accepted {
             accepted += 1;
-        } else {
-            refused += 1;
         }
-        let named = marked(desks, step.desk);
-        desks = named;
-        state = step.state;
+        mark(&mut desks, step.desk);
     }
     let mut more = [0u8; 1];
-    if read_whole(input, &mut more)? {
-        report::put_left_over(out);
-        return Ok(());
+    if read_full(input, &mut more)? != 0 {
+        return Err(Stop::BadFile(BadFile::LeftOver));
     }
-    report::put_totals(out, accepted, refused);
-    let tallies = state.accepted;
-    report::put_tallies(out, desks, tallies);
+    report::put_totals(out, accepted, opening.frames - accepted);
+    report::put_tallies(out, desks, state.accepted);
     Ok(())
 }
 
-// Reads the state of a file of the first version, then the frames.
-fn read_first(input: &mut impl Read, out: &mut Out<impl Print>, frames: u32) -> io::Result<()> {
-    let mut bytes = [0u8; 4613];
-    if !read_whole(input, &mut bytes)? {
-        report::put_state_cut(out);
-        return Ok(());
-    }
-    let converted = first_state(&bytes);
-    let answer = converted.answer;
-    let state = converted.state;
-    match answer {
-        CarryAnswer::Refused(_) => {
-            report::put_state_refused(out, u8_at(&bytes, 0));
-            Ok(())
+// Reads the state that follows the opening.
+fn read_state(input: &mut impl Read, version: Version) -> Result<McDecodeState, Stop> {
+    match version {
+        Version::First => {
+            let mut bytes = [0u8; 4613];
+            read_whole(input, &mut bytes, BadFile::StateCut)?;
+            first_state(&bytes).map_err(|_| Stop::BadFile(BadFile::StateRefused(bytes[0])))
         }
-        CarryAnswer::Carried => read_frames(input, out, state, 1, frames),
+        Version::Second => {
+            let mut bytes = [0u8; 4642];
+            read_whole(input, &mut bytes, BadFile::StateCut)?;
+            Ok(second_state(&bytes))
+        }
     }
 }
 
-// The same of the second version.
-fn read_second(input: &mut impl Read, out: &mut Out<impl Print>, frames: u32) -> io::Result<()> {
-    let mut bytes = [0u8; 4642];
-    if !read_whole(input, &mut bytes)? {
-        report::put_state_cut(out);
-        return Ok(());
-    }
-    read_frames(input, out, second_state(&bytes), 2, frames)
+fn read_file(input: &mut impl Read, out: &mut Out<impl Print>) -> Result<(), Stop> {
+    let mut bytes = [0u8; 13];
+    let got = read_full(input, &mut bytes)?;
+    let opening = opening_of(&bytes[..got]).map_err(BadFile::Opening)?;
+    let state = if opening.state_follows {
+        read_state(input, opening.version)?
+    } else {
+        McDecodeState::new()
+    };
+    read_frames(input, out, state, opening)
 }
 
 // Reads a frame file.
 pub fn run(input: &mut impl Read, out: &mut Out<impl Print>) -> io::Result<()> {
-    let mut opening = [0u8; 13];
-    let got = read_full(input, &mut opening)?;
-    let fault = opening_fault(&opening[..got]);
-    if fault != 0 {
-        report::put_opening_fault(out, fault);
-        return Ok(());
-    }
-    let version = version_of(&opening);
-    let frames = u32_at(&opening, 8);
-    if u8_at(&opening, 12) == 0 {
-        return read_frames(input, out, McDecodeState::new(), version, frames);
-    }
-    if version == 2 {
-        read_second(input, out, frames)
-    } else {
-        read_first(input, out, frames)
+    match read_file(input, out) {
+        Ok(()) => Ok(()),
+        Err(Stop::Io(e)) => Err(e),
+        Err(Stop::BadFile(fault)) => {
+            writeln!(out, "bad file: {fault}");
+            Ok(())
+        }
     }
 }

@@ -6,6 +6,7 @@ use program_out::Out;
 use std::io;
 use std::io::Input;
 
+mod bad_file;
 mod input;
 mod report;
 

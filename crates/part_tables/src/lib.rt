@@ -15,5 +15,5 @@ pub use pack::{pack_tables, write_tables};
 pub fn pack_refusal(e: McError) -> u64
     ensures { result ≡ packed_refusal (refusal_of e) }
 {
-    e.number() as u64 + (e.group() % 16777216) as u64 * 256 + e.code() as u64 * 4294967296
+    u64::from(e.number()) + (e.group() % 16777216) as u64 * 256 + u64::from(e.code()) * 4294967296
 }

@@ -1,39 +1,13 @@
 // The tables of a record in lent buffers.
-ghost use Rattle.std.specs.Prelude.{◌≡◌, length};
-ghost use Rattle.mc_unpack.specs.Answer.{answered, values_of};
+ghost use Rattle.std.specs.Prelude.{◌≡◌, length, Ok};
+ghost use Rattle.mc_unpack.specs.Answer.{answered};
 ghost use Rattle.mc_values.specs.Values.{delays_from, coefs_from};
-ghost use Rattle.part_tables.specs.Payload.{entries, flat_delays, flat_coefs};
+ghost use Rattle.part_tables.specs.Payload.{flat_delays, flat_coefs};
 ghost use Rattle.part_tables.specs.PayloadCode.{scfsi_after, delays_after, coefs_after, scalefactors_after, excesses_after, packed_tables};
 
 use crate::pack_refusal;
-use mc_unpack::{UnpackAnswer, Unpacked};
-
-fn write_scfsi(table: &[u8; 96], out: &mut [u8])
-    requires { length out.old ≡ 96 }
-    ensures { out.new ≡ entries 96 table.now }
-{
-    for k in 0usize..96 {
-        out[k] = table[k];
-    }
-}
-
-fn write_scalefactors(table: &[u8; 288], out: &mut [u8])
-    requires { length out.old ≡ 288 }
-    ensures { out.new ≡ entries 288 table.now }
-{
-    for k in 0usize..288 {
-        out[k] = table[k];
-    }
-}
-
-fn write_excesses(table: &[u16; 1152], out: &mut [u16])
-    requires { length out.old ≡ 1152 }
-    ensures { out.new ≡ entries 1152 table.now }
-{
-    for k in 0usize..1152 {
-        out[k] = table[k];
-    }
-}
+use mc_error::McError;
+use mc_unpack::Unpacked;
 
 // The delays of all predictors, by group.
 fn write_delays(codes: &[u8; 192], out: &mut [u8])
@@ -41,8 +15,8 @@ fn write_delays(codes: &[u8; 192], out: &mut [u8])
     ensures { out.new ≡ flat_delays (delays_from codes.now) }
 {
     let delays = mc_values::delays(codes);
-    for k in 0usize..48 {
-        out[k] = delays[k / 6][k % 6];
+    for (k, delay) in out.iter_mut().enumerate() {
+        *delay = delays[k / 6][k % 6];
     }
 }
 
@@ -52,14 +26,14 @@ fn write_coefs(predsi: &[u8; 56], codes: &[u8; 192], out: &mut [f64])
     ensures { out.new ≡ flat_coefs (coefs_from predsi.now codes.now) }
 {
     let coefs = mc_values::coefs(predsi, codes);
-    for k in 0usize..144 {
-        out[k] = coefs[k / 18][k / 3 % 6][k % 3];
+    for (k, coef) in out.iter_mut().enumerate() {
+        *coef = coefs[k / 18][k / 3 % 6][k % 3];
     }
 }
 
 // Writes the tables of an accepted payload, and nothing of a refused one.
 pub fn write_tables(
-    u: &Unpacked,
+    unpacked: &Result<Unpacked, McError>,
     predsi: &[u8; 56],
     scfsi: &mut [u8],
     delays: &mut [u8],
@@ -68,38 +42,32 @@ pub fn write_tables(
     excesses: &mut [u16],
 )
     requires { (length scfsi.old ≡ 96) × (length delays.old ≡ 48) × (length coefs.old ≡ 144) × (length scalefactors.old ≡ 288) × (length excesses.old ≡ 1152) }
-    ensures { (scfsi.new ≡ scfsi_after (answered u.now.answer (values_of u.now)) scfsi.old) × (delays.new ≡ delays_after (answered u.now.answer (values_of u.now)) delays.old) × (coefs.new ≡ coefs_after predsi.now (answered u.now.answer (values_of u.now)) coefs.old) × (scalefactors.new ≡ scalefactors_after (answered u.now.answer (values_of u.now)) scalefactors.old) × (excesses.new ≡ excesses_after (answered u.now.answer (values_of u.now)) excesses.old) }
+    ensures { let a = answered unpacked.now in (scfsi.new ≡ scfsi_after a scfsi.old) × (delays.new ≡ delays_after a delays.old) × (coefs.new ≡ coefs_after predsi.now a coefs.old) × (scalefactors.new ≡ scalefactors_after a scalefactors.old) × (excesses.new ≡ excesses_after a excesses.old) }
 {
-    let answer = u.answer;
-    match answer {
-        UnpackAnswer::Accepted {
-            payload_bits: _,
-            excess_codes: _,
-        } => {
-            write_scfsi(&u.scfsi, scfsi);
-            write_delays(&u.predictors, delays);
-            write_coefs(predsi, &u.predictors, coefs);
-            write_scalefactors(&u.scalefactors, scalefactors);
-            write_excesses(&u.excesses, excesses);
-        }
-        UnpackAnswer::Refused(_) => {}
+    if let Ok(u) = unpacked {
+        scfsi.copy_from_slice(&u.scfsi);
+        write_delays(&u.predictors, delays);
+        write_coefs(predsi, &u.predictors, coefs);
+        scalefactors.copy_from_slice(&u.scalefactors);
+        excesses.copy_from_slice(&u.excesses);
     }
 }
 
-// The answer as one number.
-pub fn pack_tables(u: &Unpacked) -> u64
-    ensures { result ≡ packed_tables (answered u.now.answer (values_of u.now)) }
+// An accepted payload's answer as one number.
+fn pack_accepted(u: &Unpacked) -> u64
+    ensures { result ≡ packed_tables (answered (Ok u.now)) }
 {
-    let answer = u.answer;
-    match answer {
-        UnpackAnswer::Accepted {
-            payload_bits,
-            excess_codes,
-        } => {
-            (payload_bits % 16777216) as u64 * 256
-                + u.lf_scalefactor as u64 * 4294967296
-                + (excess_codes % 16777216) as u64 * 1099511627776
-        }
-        UnpackAnswer::Refused(e) => pack_refusal(e),
+    (u.payload_bits % 16777216) as u64 * 256
+        + u64::from(u.lf_scalefactor) * 4294967296
+        + u64::from(u.excess_codes % 16777216) * 1099511627776
+}
+
+// The answer as one number.
+pub fn pack_tables(unpacked: &Result<Unpacked, McError>) -> u64
+    ensures { result ≡ packed_tables (answered unpacked.now) }
+{
+    match unpacked {
+        Ok(u) => pack_accepted(u),
+        Err(e) => pack_refusal(*e),
     }
 }

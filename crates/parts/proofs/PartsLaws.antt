@@ -1,5 +1,5 @@
 -- The bytes that the code makes are those of the definition, and each case of a head's answer leaves what the definition says.
-use Rattle.std.specs.Prelude.{◌≡◌, refl, Bool, true, false, List, [], ◌∷◌, ℕ, ◌*◌, ◌/◌, ◌%◌}
+use Rattle.std.specs.Prelude.{◌≡◌, refl, Bool, true, false, List, [], ◌∷◌, ℕ, ◌*◌, ◌/◌, ◌%◌, Result, Ok, Err}
 use Rattle.std.proofs.Common.{sym, ap, ◌∙◌, eq-eqb, ne_eqb}
 use mir.Val.{bool_byte}
 use Rattle.bits.specs.Syntax.{refused, plain}
@@ -9,7 +9,6 @@ use Rattle.mc_error.specs.Error.{refusal_of}
 use Rattle.mc_error.specs.declared.McError.{McError}
 use Rattle.mc_head.specs.Answer.{outcome_of}
 use Rattle.mc_fields.specs.Lent.{head_of}
-use Rattle.mc_head.specs.declared.HeadAnswer.TheVariants.{Accepted, Refused}
 use Rattle.mc_head.specs.declared.McHead.{McHead}
 use Rattle.mc_fields.specs.declared.McStatus.{McStatus}
 use Rattle.part_tables.specs.Parts.{Head, flag, first_bytes, byte_of, head_byte, head_for, packed_refusal, packed_head, bytes_after}
@@ -47,18 +46,17 @@ module _ (h : McHeader) (word : ℕ) (s : McStatus) where
       → out ≡ tab (byte_of first s.tc_allocation (bool_byte s.dyn_cross_lr) s.dyn_cross s.mc_prediction) 110 → out ≡ tab (head_byte h word s) 110
   all-bytes first out e q = q ∙ (rw (e, flag-byte s.dyn_cross_lr))
 
-module _ (r : McHead) where
-  pub packs-accepted : (used : ℕ) → r.answer ≡ Accepted used → used % 16777216 * 256 ≡ packed_head (outcome_of r)
-  packs-accepted used q = rw q
+module _ (r : Result McHead McError) where
+  pub packs-accepted : (h : McHead) → r ≡ Ok h → h.used % 16777216 * 256 ≡ packed_head (outcome_of r)
+  packs-accepted h q = rw q
 
-  pub packs-refused : (e : McError) (n : ℕ) → r.answer ≡ Refused e → n ≡ packed_refusal (refusal_of e) → n ≡ packed_head (outcome_of r)
+  pub packs-refused : (e : McError) (n : ℕ) → r ≡ Err e → n ≡ packed_refusal (refusal_of e) → n ≡ packed_head (outcome_of r)
   packs-refused e n q en = rw q en
 
-  pub writes-accepted : (used : ℕ) (old out : List ℕ) → r.answer ≡ Accepted used
-      → out ≡ tab (head_byte r.header r.check_word r.status) 110 → out ≡ bytes_after (outcome_of r) old
-  writes-accepted used old out q e = rw q e
+  pub writes-accepted : (h : McHead) (old out : List ℕ) → r ≡ Ok h → out ≡ tab (head_byte h.header h.check_word h.status) 110 → out ≡ bytes_after (outcome_of r) old
+  writes-accepted h old out q e = rw q e
 
-  pub writes-refused : (x : McError) (old : List ℕ) → r.answer ≡ Refused x → old ≡ bytes_after (outcome_of r) old
+  pub writes-refused : (x : McError) (old : List ℕ) → r ≡ Err x → old ≡ bytes_after (outcome_of r) old
   writes-refused x old q = rw q
 
 module _ (reading : ℕ) (bytes : List ℕ) (bits base room : ℕ) where
@@ -75,6 +73,6 @@ module _ (reading : ℕ) (bytes : List ℕ) (bits base room : ℕ) where
   wrong-room h old = let e = head-wrong h in (rw e, rw e)
 
   -- room for 110 bytes
-  pub right-room : room ≡ 110 → (r : McHead) → outcome_of r ≡ head_of reading bytes bits base → (n : ℕ) → n ≡ packed_head (outcome_of r) → (old out : List ℕ) → out ≡ bytes_after (outcome_of r) old
+  pub right-room : room ≡ 110 → (r : Result McHead McError) → outcome_of r ≡ head_of reading bytes bits base → (n : ℕ) → n ≡ packed_head (outcome_of r) → (old out : List ℕ) → out ≡ bytes_after (outcome_of r) old
       → (n ≡ packed_head (head_for reading bytes bits base room)) × (out ≡ bytes_after (head_for reading bytes bits base room) old)
   right-room h r e n en old out eo = let q = e ∙ sym (head-roomy h) in (en ∙ ap packed_head q, eo ∙ ap (λ (o : Head). bytes_after o old) q)

@@ -3,12 +3,11 @@
 
 ghost use Rattle.std.specs.Prelude.{◌≡◌, ◌<◌, length};
 ghost use Rattle.fill.specs.Tab.{tab};
-ghost use Rattle.mc_head.specs.Answer.{outcome_of};
 ghost use Rattle.part_tables.specs.Parts.{first_bytes, byte_of, head_byte, head_for, packed_head, bytes_after};
 
 use mc_config::McHeader;
 use mc_fields::McStatus;
-use mc_head::{HeadAnswer, McHead, read_head};
+use mc_head::read_head;
 use part_tables::pack_refusal;
 
 mod unpack;
@@ -21,23 +20,23 @@ fn first_bytes(header: McHeader, word: u16, status: McStatus) -> [u8; 17]
     ensures { result ≡ first_bytes header word status }
 {
     [
-        header.ext_bit_stream_present as u8,
+        u8::from(header.ext_bit_stream_present),
         header.n_ad_bytes,
         header.centre,
         header.surround,
-        header.lfe as u8,
-        header.audio_mix as u8,
+        u8::from(header.lfe),
+        u8::from(header.audio_mix),
         header.dematrix_procedure,
         header.no_of_multi_lingual_ch,
-        header.multi_lingual_fs_half as u8,
-        header.multi_lingual_layer3 as u8,
-        header.copyright_identification_bit as u8,
-        header.copyright_identification_start as u8,
+        u8::from(header.multi_lingual_fs_half),
+        u8::from(header.multi_lingual_layer3),
+        u8::from(header.copyright_identification_bit),
+        u8::from(header.copyright_identification_start),
         (word / 256) as u8,
         (word % 256) as u8,
-        status.tc_sbgr_select as u8,
-        status.dyn_cross_on as u8,
-        status.mc_prediction_on as u8,
+        u8::from(status.tc_sbgr_select),
+        u8::from(status.dyn_cross_on),
+        u8::from(status.mc_prediction_on),
     ]
 }
 
@@ -53,19 +52,13 @@ fn byte_of(
     requires { k < 110 }
     ensures { result ≡ byte_of first.now tc.now lr cross.now prediction.now k }
 {
-    if k < 17 {
-        return first[k];
+    match k {
+        0..17 => first[k],
+        17..29 => tc[k - 17],
+        29 => lr,
+        30..54 => cross[k - 30],
+        _ => prediction[k - 54],
     }
-    if k < 29 {
-        return tc[k - 17];
-    }
-    if k < 30 {
-        return lr;
-    }
-    if k < 54 {
-        return cross[k - 30];
-    }
-    prediction[k - 54]
 }
 
 // Writes a head's fields.
@@ -74,43 +67,20 @@ fn write_fields(header: McHeader, word: u16, status: McStatus, out: &mut [u8])
     ensures { out.new ≡ tab (head_byte header word status) 110 }
 {
     let first = first_bytes(header, word, status);
-    let tc = status.tc_allocation;
-    let lr = status.dyn_cross_lr as u8;
-    let cross = status.dyn_cross;
-    let prediction = status.mc_prediction;
-    for k in 0usize..HEAD_BYTES {
-        out[k] = byte_of(&first, &tc, lr, &cross, &prediction, k);
+    let lr = u8::from(status.dyn_cross_lr);
+    for (k, byte) in out.iter_mut().enumerate() {
+        *byte = byte_of(
+            &first,
+            &status.tc_allocation,
+            lr,
+            &status.dyn_cross,
+            &status.mc_prediction,
+            k,
+        );
     }
 }
 
-// Writes the fields of an accepted head, and nothing of a refused one.
-fn write_head(head: McHead, out: &mut [u8])
-    requires { length out.old ≡ 110 }
-    ensures { out.new ≡ bytes_after (outcome_of head) out.old }
-{
-    let answer = head.answer;
-    match answer {
-        HeadAnswer::Accepted(_) => {
-            let header = head.header;
-            let status = head.status;
-            write_fields(header, head.check_word, status, out);
-        }
-        HeadAnswer::Refused(_) => {}
-    }
-}
-
-// The answer as one number.
-fn pack(head: McHead) -> u64
-    ensures { result ≡ packed_head (outcome_of head) }
-{
-    let answer = head.answer;
-    match answer {
-        HeadAnswer::Accepted(used) => (used % 16777216) as u64 * 256,
-        HeadAnswer::Refused(e) => pack_refusal(e),
-    }
-}
-
-// Reads the head in the first `bits` bits and writes its fields.
+// Reads the head in the first `bits` bits and writes its fields; nothing after a refusal. The answer is one number.
 #[unsafe(no_mangle)]
 pub extern "C" fn mc_part_head(
     bytes: &[u8],
@@ -124,7 +94,11 @@ pub extern "C" fn mc_part_head(
     if out.len() != HEAD_BYTES {
         return 6;
     }
-    let head = read_head(bytes, bits, reading, base_channels);
-    write_head(head, out);
-    pack(head)
+    match read_head(bytes, bits, reading, base_channels) {
+        Ok(head) => {
+            write_fields(head.header, head.check_word, head.status, out);
+            (head.used % 16777216) as u64 * 256
+        }
+        Err(e) => pack_refusal(e),
+    }
 }

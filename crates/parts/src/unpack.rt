@@ -1,13 +1,14 @@
 // Unpacking a payload under its head, for other languages. The function takes any input.
 ghost use Rattle.std.specs.Prelude.{◌≡◌, length};
-ghost use Rattle.mc_payload.specs.Unpack.{loan_by, settings_of, unpack_of};
+ghost use Rattle.mc_loan.specs.Lent.{loan_with};
+ghost use Rattle.mc_payload.specs.Unpack.{settings_of, unpack_of};
 ghost use Rattle.part_tables.specs.Payload.{lent_of, buffers_from, after_by, room_fits, lent_by, left_by, part_of};
 
 use mc_config::McHeader;
 use mc_error::McError;
 use mc_fields::{McStatus, string_fits};
-use mc_head::{HeadAnswer, read_head};
-use mc_loan::loan_fits;
+use mc_head::read_head;
+use mc_loan::Loan;
 use mc_unpack::unpack;
 use part_tables::{pack_refusal, pack_tables, write_tables};
 
@@ -22,24 +23,23 @@ fn room_fits(
 ) -> bool
     ensures { result ≡ room_fits scfsi delays coefs scalefactors excesses raw lfe }
 {
-    (scfsi == 96)
-        & ((delays == 48)
-            & ((coefs == 144)
-                & ((scalefactors == 288) & ((excesses == 1152) & ((raw == 3456) & (lfe == 12))))))
+    scfsi == 96
+        && delays == 48
+        && coefs == 144
+        && scalefactors == 288
+        && excesses == 1152
+        && raw == 3456
+        && lfe == 12
 }
 
 // Whether all that is lent is as it has to be (refusal 6); the buffers come by their lengths.
+#[tactic(auto, unfolding(part_tables::specs::Payload::lent_by))]
 fn lent_fits(
     head: &[u8],
     head_bits: usize,
     payload: &[u8],
     payload_bits: usize,
-    reading: u32,
-    rate: u32,
-    base_channels: u8,
-    lfe_allocation: u8,
-    nb_steps: &[u32],
-    base_nb_steps: &[u32],
+    loan: &Loan<'_>,
     scfsi: usize,
     delays: usize,
     coefs: usize,
@@ -48,34 +48,21 @@ fn lent_fits(
     raw: usize,
     lfe: usize,
 ) -> bool
-    ensures { result ≡ lent_by (lent_of head.now head_bits payload.now payload_bits reading rate base_channels lfe_allocation nb_steps.now base_nb_steps.now) scfsi delays coefs scalefactors excesses raw lfe }
+    ensures { let l = loan.now in result ≡ lent_by (lent_of head.now head_bits payload.now payload_bits l.reading l.rate l.base_channels l.lfe_allocation l.nb_steps.now l.base_nb_steps.now) scfsi delays coefs scalefactors excesses raw lfe }
 {
-    let heads = string_fits(head, head_bits);
-    let payloads = string_fits(payload, payload_bits);
-    let loan = loan_fits(
-        reading,
-        rate,
-        base_channels,
-        lfe_allocation,
-        nb_steps,
-        base_nb_steps,
-    );
-    let room = room_fits(scfsi, delays, coefs, scalefactors, excesses, raw, lfe);
-    heads & (payloads & (loan & room))
+    string_fits(head, head_bits)
+        && string_fits(payload, payload_bits)
+        && loan.fits()
+        && room_fits(scfsi, delays, coefs, scalefactors, excesses, raw, lfe)
 }
 
-// Unpacks under a head that was read.
+// Unpacks under a head that was read. The buffers stay apart, as C lends them.
 fn unpack_under(
     header: McHeader,
     status: McStatus,
     payload: &[u8],
     payload_bits: usize,
-    reading: u32,
-    rate: u32,
-    base_channels: u8,
-    lfe_allocation: u8,
-    nb_steps: &[u32],
-    base_nb_steps: &[u32],
+    loan: &Loan<'_>,
     scfsi: &mut [u8],
     delays: &mut [u8],
     coefs: &mut [f64],
@@ -85,25 +72,20 @@ fn unpack_under(
     lfe: &mut [f64],
 ) -> u64
     requires { (length scfsi.old ≡ 96) × (length delays.old ≡ 48) × (length coefs.old ≡ 144) × (length scalefactors.old ≡ 288) × (length excesses.old ≡ 1152) × (length raw.old ≡ 3456) × (length lfe.old ≡ 12) }
-    ensures { after_by result (buffers_from scfsi.new delays.new coefs.new scalefactors.new excesses.new raw.new lfe.new) ≡ left_by (settings_of (loan_by reading rate base_channels header status lfe_allocation nb_steps.now base_nb_steps.now)) (buffers_from scfsi.old delays.old coefs.old scalefactors.old excesses.old raw.old lfe.old) (unpack_of (loan_by reading rate base_channels header status lfe_allocation nb_steps.now base_nb_steps.now) payload.now payload_bits) }
+    ensures { after_by result (buffers_from scfsi.new delays.new coefs.new scalefactors.new excesses.new raw.new lfe.new) ≡ left_by (settings_of (loan_with loan.now header status)) (buffers_from scfsi.old delays.old coefs.old scalefactors.old excesses.old raw.old lfe.old) (unpack_of (loan_with loan.now header status) payload.now payload_bits) }
 {
-    let predsi = status.mc_prediction;
-    let u = unpack(
-        payload,
-        payload_bits,
-        reading,
-        rate,
-        base_channels,
-        header,
-        status,
-        lfe_allocation,
-        nb_steps,
-        base_nb_steps,
-        raw,
-        lfe,
+    let unpacked = unpack(payload, payload_bits, loan, header, status, raw, lfe);
+    let predsi = &status.mc_prediction;
+    write_tables(
+        &unpacked,
+        predsi,
+        scfsi,
+        delays,
+        coefs,
+        scalefactors,
+        excesses,
     );
-    write_tables(&u, &predsi, scfsi, delays, coefs, scalefactors, excesses);
-    pack_tables(&u)
+    pack_tables(&unpacked)
 }
 
 // Reads the head, then unpacks the payload under it into the buffers of the record. After a refusal all are as they were.
@@ -129,17 +111,20 @@ pub extern "C" fn mc_part_unpack(
 ) -> u64
     ensures { after_by result (buffers_from scfsi.new delays.new coefs.new scalefactors.new excesses.new raw.new lfe.new) ≡ part_of (lent_of head.now head_bits payload.now payload_bits reading rate base_channels lfe_allocation nb_steps.now base_nb_steps.now) (buffers_from scfsi.old delays.old coefs.old scalefactors.old excesses.old raw.old lfe.old) }
 {
-    if !lent_fits(
-        head,
-        head_bits,
-        payload,
-        payload_bits,
+    let loan = Loan {
         reading,
         rate,
         base_channels,
         lfe_allocation,
         nb_steps,
         base_nb_steps,
+    };
+    if !lent_fits(
+        head,
+        head_bits,
+        payload,
+        payload_bits,
+        &loan,
         scfsi.len(),
         delays.len(),
         coefs.len(),
@@ -150,32 +135,21 @@ pub extern "C" fn mc_part_unpack(
     ) {
         return pack_refusal(McError::InvalidArgument);
     }
-    let first = read_head(head, head_bits, reading, base_channels);
-    let answer = first.answer;
-    match answer {
-        HeadAnswer::Refused(e) => pack_refusal(e),
-        HeadAnswer::Accepted(_) => {
-            let header = first.header;
-            let status = first.status;
-            unpack_under(
-                header,
-                status,
-                payload,
-                payload_bits,
-                reading,
-                rate,
-                base_channels,
-                lfe_allocation,
-                nb_steps,
-                base_nb_steps,
-                scfsi,
-                delays,
-                coefs,
-                scalefactors,
-                excesses,
-                raw,
-                lfe,
-            )
-        }
+    match read_head(head, head_bits, reading, base_channels) {
+        Err(e) => pack_refusal(e),
+        Ok(first) => unpack_under(
+            first.header,
+            first.status,
+            payload,
+            payload_bits,
+            &loan,
+            scfsi,
+            delays,
+            coefs,
+            scalefactors,
+            excesses,
+            raw,
+            lfe,
+        ),
     }
 }

@@ -1,11 +1,12 @@
 -- What is compared of a frame: six numbers, and the counts. Definitions only.
-use Rattle.std.specs.Prelude.{ℕ, zero, suc, ◌+◌, ◌%◌, Bool, cond, not, List, ◌==◌, nat_le, slice_index, slice_set, Float}
+use Rattle.std.specs.Prelude.{ℕ, zero, suc, ◌+◌, ◌%◌, Bool, cond, not, List, [], ◌∷◌, codes, ◌==◌, nat_le, slice_index, slice_set, Float, Result}
 use Rattle.encoding.specs.Encoding.{number_at, hash_number, hash_floats}
-use Rattle.mc_state.specs.declared.McAnswer.{McAnswer}
+use Rattle.mc_error.specs.declared.McError.{McError}
+use Rattle.mc_state.specs.declared.Accepted.{Accepted}
 use Rattle.mc_state.specs.declared.McDecodeState.{McDecodeState}
 use Rattle.mc_state.specs.Answer.{packed, outcome_of}
-use Rattle.replay_list.specs.declared.outcome.Outcome.{Outcome}
-use Rattle.replay_list.specs.declared.outcome.Differences.{Differences}
+use Rattle.mc_state.specs.Frame.{Buffers}
+use Rattle.replay_list.specs.declared.outcome.Parts.{Parts}
 use Rattle.replay_list.specs.declared.tally.Tally.{Tally}
 
 -- FNV-1a begins with this number
@@ -21,19 +22,19 @@ unfoldable pub state_hash : McDecodeState → ℕ
 state_hash s = hash_numbers (hash_number (hash_number (hash_of s.pred_hist) s.layout_len) s.layout) s.accepted 8
 
 -- what the frame call reached: its packed answer, and the hashes of the four buffers and of the state
-abbrev pub reached_of : McAnswer → McDecodeState → List Float → List Float → List Float → List Float → Outcome
-reached_of answer s raw work output lfe =
+abbrev pub reached_of : Result Accepted McError → McDecodeState → Buffers → Parts ℕ
+reached_of answer s w =
     record {
       answer = packed (outcome_of answer);
-      raw = hash_of raw;
-      work = hash_of work;
-      output = hash_of output;
-      lfe = hash_of lfe;
+      raw = hash_of w.raw;
+      work = hash_of w.work;
+      output = hash_of w.output;
+      lfe = hash_of w.lfe;
       state = state_hash s;
     }
 
 -- what the list has
-abbrev pub listed_of : List ℕ → Outcome
+abbrev pub listed_of : List ℕ → Parts ℕ
 listed_of opening =
     record {
       answer = number_at opening 40 8;
@@ -44,7 +45,7 @@ listed_of opening =
       state = number_at opening 80 8;
     }
 
-abbrev pub differences_of : Outcome → Outcome → Differences
+abbrev pub differences_of : Parts ℕ → Parts ℕ → Parts Bool
 differences_of a b =
     record {
       answer = not (a.answer == b.answer);
@@ -54,6 +55,11 @@ differences_of a b =
       lfe = not (a.lfe == b.lfe);
       state = not (a.state == b.state);
     }
+
+-- each part by the words for it
+abbrev pub named_of : Parts Bool → List (List ℕ × Bool)
+named_of d =
+    (codes "its answer", d.answer) ∷ (codes "raw", d.raw) ∷ (codes "work", d.work) ∷ (codes "output", d.output) ∷ (codes "lfe", d.lfe) ∷ (codes "its state", d.state) ∷ []
 
 -- one more; counts start again past 64 bits
 abbrev pub more : ℕ → ℕ → ℕ

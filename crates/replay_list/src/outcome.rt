@@ -1,22 +1,46 @@
 // What a frame answers and leaves behind, as six numbers, and how two such outcomes differ.
-ghost use Rattle.std.specs.Prelude.{◌≡◌, ◌+◌, length};
-ghost use Rattle.replay_list.specs.Outcome.{hash_of, hash_numbers, state_hash, listed_of, reached_of, differences_of};
+ghost use Rattle.std.specs.Prelude.{◌≡◌, ◌+◌, length, map};
+ghost use Rattle.mc_state.specs.Answer.{buffers_now};
+ghost use Rattle.replay_list.specs.Outcome.{hash_of, hash_numbers, state_hash, listed_of, reached_of, differences_of, named_of};
 
 use encoding::number_at;
 use hash::{hash_floats, hash_number};
-use mc_state::{McAnswer, McDecodeState, pack};
+use mc_error::McError;
+use mc_state::{Accepted, Buffers, McDecodeState, pack};
 
 const EMPTY_HASH: u64 = 0xCBF29CE484222325;
 
+// Something of each part that is compared: the packed answer, the four buffers and the state.
+#[derive(Clone, Copy, PartialEq, Eq)]
+pub struct Parts<T> {
+    pub answer: T,
+    pub raw: T,
+    pub work: T,
+    pub output: T,
+    pub lfe: T,
+    pub state: T,
+}
+
 // The packed answer, and the hashes of the four buffers and of the state.
-#[derive(Clone, Copy)]
-pub struct Outcome {
-    pub answer: u64,
-    pub raw: u64,
-    pub work: u64,
-    pub output: u64,
-    pub lfe: u64,
-    pub state: u64,
+pub type Outcome = Parts<u64>;
+
+// Which of the six numbers differ.
+pub type Differences = Parts<bool>;
+
+impl Parts<bool> {
+    // Each with the words for its part.
+    pub fn named(self) -> [(&'static str, bool); 6]
+        ensures { map (λ p. (p.0.now, p.1)) result ≡ named_of self }
+    {
+        [
+            ("its answer", self.answer),
+            ("raw", self.raw),
+            ("work", self.work),
+            ("output", self.output),
+            ("lfe", self.lfe),
+            ("its state", self.state),
+        ]
+    }
 }
 
 fn hash(xs: &[f64]) -> u64
@@ -29,56 +53,44 @@ fn hash(xs: &[f64]) -> u64
 fn hash_tallies(h: u64, tallies: [u32; 8]) -> u64
     ensures { result ≡ hash_numbers h tallies 8 }
 {
-    let mut hash = h;
-    for k in 0usize..8 {
-        hash = hash_number(hash, tallies[k] as u64);
-    }
-    hash
+    tallies
+        .iter()
+        .fold(h, |hash, tally| hash_number(hash, u64::from(*tally)))
 }
 
 // The hash of the history, the layout count, the layout and the tallies.
-fn hash_state(state: McDecodeState) -> u64
-    ensures { result ≡ state_hash state }
+#[tactic(auto, unfolding(crate::specs::Outcome::state_hash))]
+fn hash_state(state: &McDecodeState) -> u64
+    ensures { result ≡ state_hash state.now }
 {
-    let history = state.pred_hist;
-    let tallies = state.accepted;
-    let h = hash(&history);
-    let counted = hash_number(h, state.layout_len as u64);
-    let laid = hash_number(counted, state.layout as u64);
-    hash_tallies(laid, tallies)
+    let history = hash(&state.pred_hist);
+    let counted = hash_number(history, u64::from(state.layout_len));
+    let laid = hash_number(counted, u64::from(state.layout));
+    hash_tallies(laid, state.accepted)
 }
 
 // How many floats those hashes are of.
-pub fn hashed_values(raw: &[f64], work: &[f64], output: &[f64], lfe: &[f64]) -> u64
-    ensures { result ≡ length raw.now + length work.now + length output.now + length lfe.now + 576 }
+pub fn hashed_values(buffers: &Buffers<'_>) -> u64
+    ensures { let w = buffers_now buffers.now in result ≡ length w.raw + length w.work + length w.output + length w.lfe + 576 }
 {
-    (raw.len() + work.len() + output.len() + lfe.len() + 576) as u64
+    (buffers.raw.len() + buffers.work.len() + buffers.output.len() + buffers.lfe.len() + 576) as u64
 }
 
 // The outcome that the frame call reached.
 pub fn reached(
-    answer: McAnswer,
-    state: McDecodeState,
-    raw: &[f64],
-    work: &[f64],
-    output: &[f64],
-    lfe: &[f64],
+    answer: Result<Accepted, McError>,
+    state: &McDecodeState,
+    buffers: &Buffers<'_>,
 ) -> Outcome
-    ensures { result ≡ reached_of answer state raw.now work.now output.now lfe.now }
+    ensures { result ≡ reached_of answer state.now (buffers_now buffers.now) }
 {
-    let a = pack(answer);
-    let r = hash(raw);
-    let w = hash(work);
-    let o = hash(output);
-    let l = hash(lfe);
-    let s = hash_state(state);
-    Outcome {
-        answer: a,
-        raw: r,
-        work: w,
-        output: o,
-        lfe: l,
-        state: s,
+    Parts {
+        answer: pack(answer),
+        raw: hash(buffers.raw),
+        work: hash(buffers.work),
+        output: hash(buffers.output),
+        lfe: hash(buffers.lfe),
+        state: hash_state(state),
     }
 }
 
@@ -86,37 +98,20 @@ pub fn reached(
 pub fn listed(opening: &[u8]) -> Outcome
     ensures { result ≡ listed_of opening.now }
 {
-    let a = number_at(opening, 40, 8);
-    let r = number_at(opening, 48, 8);
-    let w = number_at(opening, 56, 8);
-    let o = number_at(opening, 64, 8);
-    let l = number_at(opening, 72, 8);
-    let s = number_at(opening, 80, 8);
-    Outcome {
-        answer: a,
-        raw: r,
-        work: w,
-        output: o,
-        lfe: l,
-        state: s,
+    Parts {
+        answer: number_at(opening, 40, 8),
+        raw: number_at(opening, 48, 8),
+        work: number_at(opening, 56, 8),
+        output: number_at(opening, 64, 8),
+        lfe: number_at(opening, 72, 8),
+        state: number_at(opening, 80, 8),
     }
-}
-
-// Which of the six numbers differ.
-#[derive(Clone, Copy)]
-pub struct Differences {
-    pub answer: bool,
-    pub raw: bool,
-    pub work: bool,
-    pub output: bool,
-    pub lfe: bool,
-    pub state: bool,
 }
 
 pub fn compare(a: Outcome, b: Outcome) -> Differences
     ensures { result ≡ differences_of a b }
 {
-    Differences {
+    Parts {
         answer: a.answer != b.answer,
         raw: a.raw != b.raw,
         work: a.work != b.work,

@@ -2,7 +2,7 @@
 ghost use Rattle.std.specs.Prelude.{◌≡◌};
 ghost use Rattle.replay_list.specs.Outcome.{answered_of, tallied_of};
 
-#[derive(Clone, Copy)]
+#[derive(Clone, Copy, Default)]
 pub struct Tally {
     pub frames: u64,
     // accepted frames, then those of each refusal by its number
@@ -17,11 +17,10 @@ pub struct Tally {
 fn answered(answers: [u64; 15], n: usize) -> [u64; 15]
     ensures { result ≡ answered_of answers n }
 {
-    if 15 <= n {
-        return answers;
-    }
     let mut next = answers;
-    next[n] = std::num::wrapping_add_u64(answers[n], 1);
+    if n < 15 {
+        next[n] = answers[n].wrapping_add(1);
+    }
     next
 }
 
@@ -29,15 +28,10 @@ fn answered(answers: [u64; 15], n: usize) -> [u64; 15]
 pub fn tallied(t: Tally, answer: u64, values: u64, different: bool) -> Tally
     ensures { result ≡ tallied_of t answer values different }
 {
-    let before = t.answers;
-    let answers = answered(before, (answer % 256) as usize);
-    let frames = std::num::wrapping_add_u64(t.frames, 1);
-    let all = std::num::wrapping_add_u64(t.values, values);
-    let differing = std::num::wrapping_add_u64(t.different, different as u64);
     Tally {
-        frames,
-        answers,
-        values: all,
-        different: differing,
+        frames: t.frames.wrapping_add(1),
+        answers: answered(t.answers, (answer % 256) as usize),
+        values: t.values.wrapping_add(values),
+        different: t.different.wrapping_add(u64::from(different)),
     }
 }

@@ -3,6 +3,7 @@ ghost use Rattle.std.specs.Prelude.{◌≡◌, length};
 ghost use Rattle.replay_list.specs.Values.{drawn, drawn_to, fraction_of, magnitude_of, value_of, values_after, wild_of, with_wild};
 
 // The number that is drawn after x: xorshift64.
+#[tactic(auto, unfolding(crate::specs::Values::drawn))]
 pub fn draw(x: u64) -> u64
     ensures { result ≡ drawn x }
 {
@@ -15,13 +16,7 @@ pub fn draw(x: u64) -> u64
 pub fn draw_on(x: u64, n: usize) -> u64
     ensures { result ≡ drawn_to n x }
 {
-    let mut next = x;
-    let mut k = 0usize;
-    while k < n {
-        next = draw(next);
-        k += 1;
-    }
-    next
+    (0..n).fold(x, |next, _| draw(next))
 }
 
 pub fn fraction(k: u32) -> f64
@@ -30,19 +25,19 @@ pub fn fraction(k: u32) -> f64
     k as f64 / 1048576.0
 }
 
+#[tactic(auto, unfolding(crate::specs::Values::magnitude_of))]
 fn magnitude(x: u64) -> u32
     ensures { result ≡ magnitude_of x }
 {
-    if x % 16 == 0 {
-        return 0;
+    match x % 16 {
+        0 => 0,
+        1 => 4194304,
+        _ => (x / 256 % 4194305) as u32,
     }
-    if x % 16 == 1 {
-        return 4194304;
-    }
-    (x / 256 % 4194305) as u32
 }
 
 // The value of a drawn number.
+#[tactic(auto, unfolding(crate::specs::Values::value_of))]
 pub fn value_of(x: u64) -> f64
     ensures { result ≡ value_of x }
 {
@@ -55,39 +50,32 @@ pub fn fill_values(dst: &mut [f64], seed: u64, before: usize)
     ensures { dst.new ≡ values_after seed before (length dst.old) }
 {
     let mut x = draw_on(seed, before);
-    let mut k = 0usize;
-    while k < dst.len() {
+    for value in dst {
         x = draw(x);
-        dst[k] = value_of(x);
-        k += 1;
+        *value = value_of(x);
     }
 }
 
-// A value that no frame may have.
+// A value that no frame may have. The kind is a byte of the opening, of which each is allowed: hence no enum.
+#[tactic(auto, unfolding(crate::specs::Values::wild_of))]
 pub fn wild_value(kind: u8) -> f64
     ensures { result ≡ wild_of kind }
 {
     match kind {
         1 => fraction(4194305),
         2 => -fraction(4194305),
-        3 => 1.0 / 0.0,
-        4 => -1.0 / 0.0,
-        _ => 0.0 / 0.0,
+        3 => f64::INFINITY,
+        4 => f64::NEG_INFINITY,
+        _ => f64::NAN,
     }
 }
 
 // Puts the wild value at its place, where dst, which starts at the place `first`, has it.
+#[tactic(auto, unfolding(crate::specs::Values::with_wild))]
 pub fn put_wild(dst: &mut [f64], first: usize, kind: u8, place: usize)
     ensures { dst.new ≡ with_wild first kind place dst.old }
 {
-    if kind == 0 {
-        return;
-    }
-    if place < first {
-        return;
-    }
-    let k = place - first;
-    if k < dst.len() {
-        dst[k] = wild_value(kind);
+    if kind != 0 && first <= place && place - first < dst.len() {
+        dst[place - first] = wild_value(kind);
     }
 }

@@ -8,14 +8,16 @@ use bitalloc::QuantClass;
 
 // A code of n bits as a fraction: its first bit inverted, then read in two's complement, which is the code less
 // 2^(n-1), and over 2^(n-1). The inverse of a power of two is exact, and a product is quicker than a quotient.
+// Here and below a code and its width are two numbers: they come from two tables, and a struct of both would serve one call.
 fn fraction_of(code: u32, n: u32) -> f64
     requires width { (1 ≤ n) × (n ≤ 16) }
     requires code_bound { code < 2 ^ n }
     ensures { result ≡ fraction n code }
 {
     let msb: u32 = 1 << (n - 1);
+    // Rust has no From<u32> for i32
     let v = code as i32 - msb as i32;
-    v as f64 * (1.0 / msb as f64)
+    f64::from(v) * (1.0 / f64::from(msb))
 }
 
 // The raw value of a sample's code: s'' = C * (s''' + D).
@@ -54,8 +56,8 @@ pub fn requantize_lfe(code: u32, nb: u32) -> f64
 {
     let two_nb: u32 = 1 << nb;
     let msb: u32 = 1 << (nb - 1);
-    let t = two_nb as f64;
-    t / (t - 1.0) * (fraction_of(code, nb) + 1.0 / msb as f64)
+    let t = f64::from(two_nb);
+    t / (t - 1.0) * (fraction_of(code, nb) + 1.0 / f64::from(msb))
 }
 
 // An LFE sample under an allocation from 1 to 15, scaled.
@@ -72,5 +74,5 @@ pub fn lfe_sample(allocation: u32, scalefactor: usize, code: u32) -> f64
 pub fn pred_coef(byte: u8) -> f64
     ensures { result ≡ coefficient_of byte }
 {
-    (byte as f64 - 127.0) / 32.0
+    (f64::from(byte) - 127.0) / 32.0
 }

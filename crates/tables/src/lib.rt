@@ -7,7 +7,7 @@ ghost use Rattle.tables.specs.Scalefactor.{scalefactors, scalefactor_of};
 // A scalefactor index has six bits, and the index 63 stands for no scalefactor.
 pub const SCALEFACTOR_COUNT: usize = 63;
 
-pub const SCALEFACTORS: [f64; SCALEFACTOR_COUNT] = [
+pub static SCALEFACTORS: [f64; SCALEFACTOR_COUNT] = [
     2.000_000_000_000_00,
     1.587_401_051_968_20,
     1.259_921_049_894_87,
@@ -81,9 +81,9 @@ pub fn scalefactor(index: usize) -> f64
     SCALEFACTORS[index]
 }
 
-// The whole table, for a loop to index: a constant is laid out anew by each call that names it.
-pub fn scalefactor_table() -> [f64; SCALEFACTOR_COUNT]
-    ensures { result ≡ scalefactors }
+// The whole table.
+pub fn scalefactor_table() -> &'static [f64; SCALEFACTOR_COUNT]
+    ensures { result.now ≡ scalefactors }
 {
-    SCALEFACTORS
+    &SCALEFACTORS
 }

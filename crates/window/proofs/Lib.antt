@@ -1,2 +1,2 @@
-pub mod Window
+pub mod WindowLaws
 pub mod ThreeLaws

@@ -1,88 +1,81 @@
--- Three fields in one window of eight bytes are three reads.
-use Rattle.std.specs.Prelude.{◌≡◌, refl, List, ℕ, ◌+◌, ◌-◌, ◌*◌, ◌/◌, ◌%◌, ◌^◌, ◌≤◌, ◌<◌, get_or}
-use Rattle.std.proofs.Common.{◌∙◌}
-use native.Mathlib.Omega.{arith}
-use Rattle.std.specs.Int.{Width}
-use mir.Val.{Fits, bits}
-use borrow.Author.Tests.{eq-eqb, le-leb}
+-- Three fields in one window of eight bytes, and three reads.
+use Rattle.std.specs.Prelude.{◌≡◌, List, ℕ, [], ◌∷◌, ◌+◌, ◌-◌, ◌*◌, ◌/◌, ◌%◌, ◌^◌, ◌≤◌, ◌<◌, get_or, All}
+use Rattle.std.proofs.Common.{refl, subst, add-zero, arith}
+use Rattle.std.proofs.lemmas.List.Elements.{All-cons}
 use Rattle.bits.specs.Bits.{value_at}
-use Rattle.bits.proofs.BitsLaws.{value-add, value-byte, value-field}
-use Rattle.cursor.specs.Cursor.{step}
-use Rattle.cursor.proofs.CursorLaws.{cur-fits}
-use Rattle.window.specs.Three.{Wide, three_steps}
-use Rattle.cursor.specs.declared.Cursor.{Cursor}
-use Rattle.window.specs.declared.ThreeReads.{ThreeReads}
+use Rattle.bits.specs.Syntax.{Syntax, Refusal, done, refuse, field, run, bind}
+use Rattle.bits.proofs.SyntaxLaws.{fitted}
+use Rattle.bits.proofs.BitsLaws.{value<}
+use Rattle.bit_reader.specs.Reads.{Goes}
+use Rattle.bit_reader.specs.declared.BitReader.{BitReader}
+use Rattle.bit_reader.proofs.ReadLaws.{field-on, field-fits, goes-bind, then, stays, ended-value}
+use Rattle.window.specs.Three.{three}
+use Rattle.window.proofs.WindowLaws.{window-field}
 
--- four bytes from byte q on
-pub value-word : (b : List ℕ) (q : ℕ) → get_or b q 0 < 256 → get_or b (q + 1) 0 < 256 → get_or b (q + 2) 0 < 256 → get_or b (q + 3) 0 < 256
-    → get_or b q 0 * 16777216 + get_or b (q + 1) 0 * 65536 + get_or b (q + 2) 0 * 256 + get_or b (q + 3) 0 ≡ value_at b (q * 8) 32
-value-word b q h₀ h₁ h₂ h₃ =
-    let e₁ : q * 8 + 8 ≡ (q + 1) * 8 = omega arith in
-    let e₂ : (q + 1) * 8 + 8 ≡ (q + 2) * 8 = omega arith in
-    let e₃ : (q + 2) * 8 + 8 ≡ (q + 3) * 8 = omega arith in
-    let s₂ : value_at b ((q + 2) * 8) 16 ≡ get_or b (q + 2) 0 * 256 + get_or b (q + 3) 0 =
-    value-add b ((q + 2) * 8) 8 8 ∙ rw (e₃, value-byte b (q + 2) h₂, value-byte b (q + 3) h₃) in
-    let s₁ : value_at b ((q + 1) * 8) 24 ≡ get_or b (q + 1) 0 * 65536 + (get_or b (q + 2) 0 * 256 + get_or b (q + 3) 0) =
-    value-add b ((q + 1) * 8) 8 16 ∙ rw (e₂, value-byte b (q + 1) h₁, s₂) in
-    let s₀ : value_at b (q * 8) 32 ≡ get_or b q 0 * 16777216 + (get_or b (q + 1) 0 * 65536 + (get_or b (q + 2) 0 * 256 + get_or b (q + 3) 0)) =
-    value-add b (q * 8) 8 24 ∙ rw (e₁, value-byte b q h₀, s₁) in
-    omega (arith, s₀)
+-- ---- three fields, and then more
 
--- the window of two words
-pub value-two : (b : List ℕ) (q u v : ℕ) → u ≡ value_at b (q * 8) 32 → v ≡ value_at b ((q + 4) * 8) 32 → u * 4294967296 + v ≡ value_at b (q * 8) 64
-value-two b q u v eu ev =
-    let e : q * 8 + 32 ≡ (q + 4) * 8 = omega arith in
-    let s = value-add b (q * 8) 32 32 in
-    rw (eu, ev) (omega (arith, rw e at s))
+-- a program of three values, by the three
+by_three : {B : Type 0} → (ℕ → ℕ → ℕ → Syntax B) → List ℕ → Syntax B
+by_three k t = k (get_or t 0 0) (get_or t 1 0) (get_or t 2 0)
 
--- the field that stands after the first o bits of the window
-module _ (b : List ℕ) (p n o window : ℕ) (ew : window ≡ value_at b (p / 8 * 8) 64) where
-  window-field : p % 8 ≤ o → o + n ≤ 64 → (r : ℕ) → r ≡ window / 2 ^ (64 - o - n) % 2 ^ n → r ≡ value_at b (p + (o - p % 8)) n
-  window-field l h r e =
-      let k : ℕ = 64 - o - n in
-      let w : 64 ≡ o + (n + k) = omega arith in
-      let a : p / 8 * 8 + o ≡ p + (o - p % 8) = omega arith in
-      e ∙ (rw (ew) (rw (← w, a) at (value-field b (p / 8 * 8) o n k)))
+module _ {B : Type 0} {r r' : BitReader} {n : ℕ} {k : ℕ → ℕ → ℕ → Syntax B} where
+  pub three-on : {r'' : BitReader} {t : List ℕ} {m'' : Syntax B} → Goes r (three n) r' (done t) → Goes r' (k (get_or t 0 0) (get_or t 1 0) (get_or t 2 0)) r'' m''
+      → Goes r (field n (λ x. field n (λ y. field n (λ z. k x y z)))) r'' m''
+  unfolding three bind by_three
+  three-on g h = then (goes-bind (by_three k) g) h
 
-module _ (b : List ℕ) (l : ℕ) (c : Cursor) (n len window : ℕ) (z : c.err ≡ 0) (w : Wide l c.at n len) (N : n ≤ 16) (ew : window ≡ value_at b (c.at / 8 * 8) 64) where
-  pub three-window :
-      (x y v : ℕ)
-      → x ≡ window / 2 ^ (64 - c.at % 8 - n) % 2 ^ n
-      → y ≡ window / 2 ^ (64 - (c.at % 8 + n) - n) % 2 ^ n
-      → v ≡ window / 2 ^ (64 - (c.at % 8 + 2 * n) - n) % 2 ^ n
-      → record { first = x; second = y; cursor = record { err = 0; at = c.at + 3 * n; value = v } } ≡ three_steps b l c n
-  unfolding three_steps step
-  three-window x y v ex ey ev =
-      let p = c.at in
-      let within = w.within in
-      let x' : x ≡ value_at b p n = rw zero at (window-field b p n (p % 8) window ew (omega arith) (omega arith) x ex) in
-      let y' : y ≡ value_at b (p + n) n = rw one at (window-field b p n (p % 8 + n) window ew (omega arith) (omega arith) y ey) in
-      let v' : v ≡ value_at b (p + n + n) n = rw two at (window-field b p n (p % 8 + 2 * n) window ew (omega arith) (omega arith) v ev) in
-      let e : p + 3 * n ≡ p + n + n + n = omega arith in
-      rw (eq-eqb c.err 0 z, le-leb (p + n) l (omega arith), le-leb (p + n + n) l (omega arith), le-leb (p + n + n + n) l (omega arith), x', y', v', e)
-    where
-      zero : c.at + (c.at % 8 - c.at % 8) ≡ c.at
-      zero = omega arith
+  pub three-stops : {x : Refusal} → Goes r (three n) r' (refuse x) → Goes r (field n (λ x. field n (λ y. field n (λ z. k x y z)))) r' (refuse x)
+  unfolding three bind by_three
+  three-stops g = goes-bind (by_three k) g
 
-      one : c.at + (c.at % 8 + n - c.at % 8) ≡ c.at + n
-      one = omega arith
+-- ---- the three fields of a window
 
-      two : c.at + (c.at % 8 + 2 * n - c.at % 8) ≡ c.at + n + n
-      two = omega arith
+module _ (r r' : BitReader) (n window : ℕ) (eb : r'.bytes ≡ r.bytes) (el : r'.limit ≡ r.limit) (ea : r'.at ≡ r.at + 3 * n) (h : r.at + 48 ≤ r.limit) (N : n ≤ 16)
+    (e : window ≡ value_at r.bytes.now (r.at / 8 * 8) 64)
+  where
+    -- the reader after j bits
+    after : ℕ → BitReader
+    after j = record { bytes = r.bytes; limit = r.limit; at = r.at + j }
 
--- three reads
-pub three-read :
-    (b : List ℕ) (l : ℕ) (c : Cursor) (n : ℕ) (x y v : Cursor)
-    → x ≡ step b l c n
-    → y ≡ step b l x n
-    → v ≡ step b l y n
-    → record { first = x.value; second = y.value; cursor = v } ≡ three_steps b l c n
-unfolding three_steps
-three-read b l c n x y v ex ey ev = rw (ev, ey, ex)
+    part : (j x : ℕ) → j + n ≤ 48 → x ≡ window / 2 ^ (64 - (r.at % 8 + j) - n) % 2 ^ n → x ≡ value_at r.bytes.now (r.at + j) n
+    part j x l ex =
+        let d : r.at % 8 + j - r.at % 8 ≡ j = omega arith in
+        rw d at (window-field r.bytes.now r.at n (r.at % 8 + j) window e (omega arith) (omega arith) x ex)
 
-pub three-fits : (w : Width) (b : List ℕ) (l : ℕ) (c : Cursor) (n : ℕ) (t : ThreeReads) → t ≡ three_steps b l c n → n ≤ bits w → Fits w t.first × Fits w t.second × Fits w t.cursor.value
-unfolding three_steps
-three-fits w b l c n t e h =
-    let x = step b l c n in
-    let y = step b l x n in
-    rw e (cur-fits b l w c n x refl h, cur-fits b l w x n y refl h, cur-fits b l w y n (step b l y n) refl h)
+    pub three-window : (x y z : ℕ)
+        → x ≡ window / 2 ^ (64 - r.at % 8 - n) % 2 ^ n
+        → y ≡ window / 2 ^ (64 - (r.at % 8 + n) - n) % 2 ^ n
+        → z ≡ window / 2 ^ (64 - (r.at % 8 + 2 * n) - n) % 2 ^ n
+        → Goes r (three n) r' (done (x ∷ (y ∷ (z ∷ []))))
+    unfolding three after
+    three-window x y z ex ey ez =
+        let x' = part 0 x (omega arith) (rw add-zero ex) in
+        let y' = part n y (omega arith) ey in
+        let z' = part (2 * n) z (omega arith) ez in
+        field-on (field-fits {r' = after n} n x refl refl refl (omega arith) (rw add-zero at x'))
+        (field-on (field-fits {r' = after (2 * n)} n y refl refl (omega arith) (omega arith) y')
+        (field-on (field-fits {r' = r'} n z eb el (omega arith) (omega arith) z') stays))
+
+-- ---- three reads
+
+pub three-read : {r r' r'' r''' : BitReader} (n x y z : ℕ) → Goes r (field n (λ v. done v)) r' (done x) → Goes r' (field n (λ v. done v)) r'' (done y)
+    → Goes r'' (field n (λ v. done v)) r''' (done z) → Goes r (three n) r''' (done (x ∷ (y ∷ (z ∷ []))))
+unfolding three
+three-read n x y z g h i = field-on g (field-on h (field-on i stays))
+
+-- the three have no more bits than their fields
+pub three-fits : {r r' : BitReader} (n : ℕ) {t : List ℕ} → Goes r (three n) r' (done t) → All (λ v. v < 2 ^ n) t
+unfolding three run
+three-fits {r} {r'} n {t} g =
+    let b = r.bytes.now in
+    let l = r.limit in
+    let x = value_at b r.at n in
+    let y = value_at b (r.at + n) n in
+    let z = value_at b (r.at + n + n) n in
+    let f = fitted n (λ x. field n (λ y. field n (λ z. done (x ∷ (y ∷ (z ∷ [])))))) b l r.at t r'.at (ended-value g) in
+    let h = fitted n (λ y. field n (λ z. done (x ∷ (y ∷ (z ∷ []))))) b l (r.at + n) t r'.at f.rest in
+    let i = (fitted n (λ z. done (x ∷ (y ∷ (z ∷ [])))) b l (r.at + n + n) t r'.at h.rest).rest in
+    let e : x ∷ (y ∷ (z ∷ [])) ≡ t = cc in
+    let P : ℕ → Type 0 = λ v. v < 2 ^ n in
+    let F : List ℕ → Type 0 = λ u. All P u in
+    subst F e (All-cons P x (y ∷ (z ∷ [])) (value< b r.at n) (All-cons P y (z ∷ []) (value< b (r.at + n) n) (All-cons P z [] (value< b (r.at + n + n) n) (λ k d h. absurd (omega arith)))))

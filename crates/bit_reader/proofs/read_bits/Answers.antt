@@ -6,21 +6,19 @@ use borrow.Author.Tests.{le-leb, lt-leb}
 use Rattle.bit_reader.specs.Answer.{read_at}
 use Rattle.bit_reader.proofs.Window.{computed, one_shl}
 use Rattle.bit_reader.proofs.read_bits.Goals as goal
+use Rattle.bit_reader.proofs.read_bits.Goals.{then-limit-n-via-then-limit-n, then-limit-n-via-else-limit-n+then-limit-n-2}
 
 pub returns-then-limit-n : goal.returns-then-limit-n
 unfolding read_at
 returns-then-limit-n c =
     let a = c.args in
-    simp (lt-leb (a.at + a.n) a.limit (omega arith))
+    elim c.then-limit-n.branch [
+      | then-limit-n-via-then-limit-n w ↦ simp (lt-leb (a.at + a.n) a.limit (omega arith))
+      | then-limit-n-via-else-limit-n+then-limit-n-2 w ↦ simp (lt-leb (a.at + a.n) a.limit (omega arith))
+    ]
 
-pub returns-then-limit-n-2 : goal.returns-then-limit-n-2
-unfolding read_at
-returns-then-limit-n-2 c =
-    let a = c.args in
-    simp (lt-leb (a.at + a.n) a.limit (omega arith))
-
-pub nonzero_rem-value : goal.nonzero_rem-value
-nonzero_rem-value c =
+pub nonzero_rem-result : goal.nonzero_rem-result
+nonzero_rem-result c =
     let n = c.args.n in
     omega (arith, pow_pos n, one_shl n (omega arith))
 

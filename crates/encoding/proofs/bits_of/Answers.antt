@@ -1,9 +1,7 @@
 -- `encoding::bits_of` meets its contract.
-use Rattle.encoding.proofs.EncodingLaws.{nan-bits, no_nan}
+use mathlib.Core.Path.{sym, ◌∙◌}
+use Rattle.encoding.proofs.EncodingLaws.{differs, nan-bits}
 use Rattle.encoding.proofs.bits_of.Goals as goal
 
-pub float_to_bits-result : goal.float_to_bits-result
-float_to_bits-result c = no_nan c.args.x c.if-x.false
-
-pub returns-then-x : goal.returns-then-x
-returns-then-x c = nan-bits c.args.x c.if-x.true
+pub returns-then-is_nan : goal.returns-then-is_nan
+returns-then-is_nan c = let x = c.args.x in nan-bits x (differs x ∙ (sym c.is_nan.ensures.value ∙ c.if-is_nan.true))

@@ -4,6 +4,3 @@ use Rattle.encoding.proofs.number_at.Given as goal
 
 abbrev pub invariant-loop-k : goal.invariant-loop-k
 invariant-loop-k l = ReadFrom l.bytes l.at l.initial.k l.k l.value
-
-abbrev pub decreases-loop-k : goal.decreases-loop-k
-decreases-loop-k l = l.k

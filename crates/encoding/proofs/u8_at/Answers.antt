@@ -1,7 +1,7 @@
--- `encoding::u8_at` meets its contract: one byte fits.
-use native.Mathlib.Omega.{arith}
-use Rattle.encoding.proofs.EncodingLaws.{one-fits}
+-- `encoding::u8_at` meets its contract: one byte is its own number.
+use Rattle.std.proofs.Common.{rules}
+use Rattle.encoding.proofs.EncodingLaws.{one-byte}
 use Rattle.encoding.proofs.u8_at.Goals as goal
 
-pub overflow_cast-result : goal.overflow_cast-result
-overflow_cast-result c = omega (arith, c.number_at.ensures, one-fits c.args.bytes.now c.args.at c.shared_slice_known-1.given)
+pub returns : goal.returns
+returns c = rw (one-byte c.args.bytes.now c.args.at) (search rules)

@@ -1,17 +1,11 @@
 -- `fill::clear` meets its contract.
-use mathlib.Core.Path.{refl}
-use native.Mathlib.Omega.{arith}
-use Rattle.fill.proofs.InOrder.{starts, more, ends-all}
+use mathlib.Core.Path.{sym, ◌∙◌}
+use lib.Ieee.{of_bits}
+use lib.ListN.{length}
+use Rattle.floats.specs.Binary64.{zero64}
+use Rattle.fill.proofs.TabLaws.{tab-constant}
 use Rattle.fill.proofs.clear.Goals as goal
 
-pub loop-k-init : goal.loop-k-init
-loop-k-init c = starts (omega arith)
-
-pub loop-k-preserved : goal.loop-k-preserved
-loop-k-preserved c = more c.loop-k.invariant (omega arith) refl
-
-pub shape_of-values : goal.shape_of-values
-shape_of-values c = c.loop-k.invariant.long
-
 pub returns : goal.returns
-returns c = ends-all c.loop-k.invariant (omega arith) refl
+unfolding of_bits
+returns c = c.fill.ensures.after (λ y e. e) ∙ sym (tab-constant zero64 (length c.args.values.now))

@@ -1,14 +1,13 @@
--- `hash::hash_number` meets its contract. The hash of the bytes that are left stays the same.
-use Rattle.std.proofs.Common.{ℕ, ◌-◌, ◌/◌, sym, ap, ◌∙◌}
-use Rattle.encoding.specs.Encoding.{hash_bytes}
-use Rattle.encoding.proofs.EncodingLaws.{hash-more, hash-none}
+-- `hash::hash_number` meets its contract.
+use mathlib.Core.Path.{◌≡◌, ap, ◌∙◌}
+use Rattle.std.proofs.Common.{rules}
+use Rattle.std.proofs.iter.runs.Made.{chains}
+use Rattle.std.specs.Prelude.{fold}
+use Rattle.encoding.specs.Encoding.{hash_byte}
+use Rattle.encoding.proofs.EncodingLaws.{number-folded}
 use Rattle.hash.proofs.hash_number.Goals as goal
 
-pub loop-left-preserved : goal.loop-left-preserved
-loop-left-preserved c =
-    let l = c.loop-left in
-    ap (λ (h : ℕ). hash_bytes (l.left - 1) h (l.rest / 256)) c.hash_byte-hash.ensures
-    ∙ (sym (hash-more l.left l.hash l.rest c.loop-left-test.true) ∙ l.invariant)
-
 pub returns : goal.returns
-returns c = let l = c.loop-left in sym (hash-none l.left l.hash l.rest c.loop-left-test.false) ∙ l.invariant
+returns c =
+    let folded : c.fold.result ≡ fold hash_byte c.args.h c.to_le_bytes.result = search (rules, chains) in
+    folded ∙ (ap (fold hash_byte c.args.h) c.to_le_bytes.ensures ∙ number-folded c.args.h c.args.n)

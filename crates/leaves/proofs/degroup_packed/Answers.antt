@@ -47,6 +47,3 @@ overflow_mul-result-3 c = let p = c.requires in let e = c.degroup-code.ensures i
 
 pub overflow_add-result-3 : goal.overflow_add-result-3
 overflow_add-result-3 c = let p = c.requires in let e = c.degroup-code.ensures in let s = small _ _ _ _ p.0 p.1 p.2 e.0 e.1 in omega arith
-
-pub returns : goal.returns
-returns c = let e = c.degroup-code.ensures in rw (e.0, e.1)

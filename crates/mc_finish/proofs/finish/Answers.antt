@@ -1,5 +1,5 @@
 -- `mc_finish::finish` meets its contract: scaling, prediction and output, one after the other.
-use Rattle.mc_base.specs.Base.{base_from}
+use Rattle.mc_base.specs.Base.{lent}
 use Rattle.mc_finish.specs.Finish.{record_from}
 use Rattle.mc_finish.proofs.Laws.Finish.{sources-small, bases-long, output-scaled, work-finished}
 use Rattle.mc_finish.proofs.finish.Goals as goal
@@ -7,18 +7,16 @@ use Rattle.mc_finish.proofs.finish.Goals as goal
 pub scale-requires : goal.scale-requires
 scale-requires c =
     let a = c.args in
-    let p = c.requires in
-    let b = base_from a.raw_left.now a.raw_right.now a.scaled_left.now a.scaled_right.now in record {
-      places_fit = record {
-        source_small = λ i h. rw p.tables.source_are (sources-small a.s i h);
-        base_long = λ i h. rw p.tables.base_are (bases-long a.s b p.base_fits i h);
-        factor_listed = p.record_fits.listed;
-      };
-      lengths = (p.record_fits.raw_long, p.lengths.0);
+    let p = c.requires in record {
+      source_small = λ i h. rw p.tables.source_are (sources-small a.s.now i h);
+      base_long = λ i h. rw p.tables.base_are (bases-long a.s.now (lent a.base) p.base_fits i h);
+      factor_listed = p.record_fits.listed;
     }
 
 pub returns : goal.returns
 returns c =
     let a = c.args in
-    let r = record_from a.raw.now a.scalefactor.now a.delays a.coefs in
-    let b = base_from a.raw_left.now a.raw_right.now a.scaled_left.now a.scaled_right.now in record { work = work-finished a.s r b a.history.now c.requires.tables c.scale.ensures.scaled c.predict.ensures; output = output-scaled a.s b c.predict.new.work c.write_output.ensures }
+    let r = record_from a.raw.now a.scalefactor.now a.delays.now a.coefs.now in record {
+      work = work-finished a.s.now r (lent a.base) a.history.now c.requires.tables c.scale.ensures.scaled c.predict.ensures;
+      output = output-scaled a.s.now (lent a.base) c.predict.new.work c.write_output.ensures;
+    }

@@ -1,28 +1,46 @@
 -- `mc_head::read_head` meets its contract.
-use mathlib.Core.Path.{ap}
-use mathlib.Core.Bool.{not}
-use Rattle.mc_head.proofs.HeadWalk.{wrong-loan, kept, stopped, forbidden, all_listed}
+use Rattle.std.proofs.Common.{sym, ◌∙◌}
+use Rattle.bit_reader.proofs.ReadLaws.{field-on, field-stops, stays, both-on, both-stops, both-stops-late}
+use Rattle.mc_fields.specs.Head.{mc_error_check, head}
+use Rattle.mc_head.proofs.HeadLaws.{widths-fit, configured, centre-refused, rest-refused, rest-read, wrong-loan, head-read, head-stops, head-returned}
 use Rattle.mc_head.proofs.read_head.Goals as goal
 
 pub returns-then-not-head_fits : goal.returns-then-not-head_fits
-returns-then-not-head_fits c =
-    let h = wrong-loan _ _ _ _ _ c.head_fits.ensures _ (ap not c.if-not-head_fits.true) c.refused.ensures in
-    record { answer = h.0; values = h.1 }
+returns-then-not-head_fits c = wrong-loan _ _ _ _ _ c.head_fits.ensures c.if-not-head_fits.true
 
-pub error_of-requires : goal.error_of-requires
-error_of-requires c = kept _ _ _ _ _ c.head_fits.ensures (ap not c.if-not-head_fits.false) _ _ _ _ _ c.read_fields-fields.ensures c.if-end-ne0.true
+pub returns-in_err-header : goal.returns-in_err-header
+unfolding head
+returns-in_err-header c =
+    let n = c.new-reader.ensures in
+    head-returned _ _ _ _ _ c.head_fits.ensures c.if-not-head_fits.false _ _ (rw n.0) n.1 n.2 _ _ c.from_residual.ensures.1 (both-stops _ c.in_err-header.ensures)
 
-pub returns-then-end-ne0 : goal.returns-then-end-ne0
-returns-then-end-ne0 c =
-    let h = stopped _ _ _ _ _ c.head_fits.ensures (ap not c.if-not-head_fits.false) _ _ _ _ _ c.read_fields-fields.ensures _ _ c.if-end-ne0.true c.error_of.ensures c.refused-then-end-ne0.ensures in
-    record { answer = h.0; values = h.1 }
+pub returns-then-centre_stops : goal.returns-then-centre_stops
+returns-then-centre_stops c =
+    let n = c.new-reader.ensures in
+    head-stops _ _ _ _ _ c.head_fits.ensures c.if-not-head_fits.false _ _ (rw n.0) n.1 n.2 _ (centre-refused _ _ c.in_ok-header.ensures (sym c.centre_stops.ensures ∙ c.if-centre_stops.true))
 
-pub returns-then-g-lt-GROUPS : goal.returns-then-g-lt-GROUPS
-returns-then-g-lt-GROUPS c =
-    let h = forbidden _ _ _ _ _ c.head_fits.ensures (ap not c.if-not-head_fits.false) _ _ _ _ _ c.read_fields-fields.ensures c.if-end-ne0.false _ c.first_forbidden-g.ensures _ c.if-g-lt-GROUPS.true c.refused-then-g-lt-GROUPS.ensures in
-    record { answer = h.0; values = h.1 }
+pub returns-in_err-check_word : goal.returns-in_err-check_word
+unfolding mc_error_check
+returns-in_err-check_word c =
+    let n = c.new-reader.ensures in
+    head-returned _ _ _ _ _ c.head_fits.ensures c.if-not-head_fits.false _ _ (rw n.0) n.1 n.2 _ _ c.from_residual-in_err-check_word.ensures.1
+    (rest-refused _ _ c.in_ok-header.ensures (sym c.centre_stops.ensures ∙ c.if-centre_stops.false) (both-stops _ (field-stops c.in_err-check_word.ensures.reads)))
+
+pub read_status-requires : goal.read_status-requires
+read_status-requires c = widths-fit _ _ _ c.from_header.ensures
+
+pub returns-in_err-status : goal.returns-in_err-status
+unfolding mc_error_check
+returns-in_err-status c =
+    let n = c.new-reader.ensures in
+    head-returned _ _ _ _ _ c.head_fits.ensures c.if-not-head_fits.false _ _ (rw n.0) n.1 n.2 _ _ c.from_residual-in_err-status.ensures.1
+    (rest-refused _ _ c.in_ok-header.ensures (sym c.centre_stops.ensures ∙ c.if-centre_stops.false)
+    (both-stops-late _ (field-on c.in_ok-check_word.ensures.reads stays) (configured _ _ c.from_header.ensures c.in_err-status.ensures)))
 
 pub returns : goal.returns
+unfolding mc_error_check
 returns c =
-    let h = all_listed _ _ _ _ _ c.head_fits.ensures (ap not c.if-not-head_fits.false) _ _ _ _ _ c.read_fields-fields.ensures c.if-end-ne0.false _ c.first_forbidden-g.ensures c.if-g-lt-GROUPS.false in
-    record { answer = h.0; values = h.1 }
+    let n = c.new-reader.ensures in
+    head-read _ _ _ _ _ c.head_fits.ensures c.if-not-head_fits.false _ _ (rw n.0) n.1 n.2 _
+    (rest-read _ _ c.in_ok-header.ensures (sym c.centre_stops.ensures ∙ c.if-centre_stops.false)
+    (both-on _ (field-on c.in_ok-check_word.ensures.reads stays) (configured _ _ c.from_header.ensures c.in_ok-status.ensures)))

@@ -1,111 +1,106 @@
 -- The output in three passes: dematrixed values, a second stereo programme over two channels, and +0 beyond the layout.
-use Rattle.std.specs.Prelude.{◌≡◌, Bool, ◌&&◌, List, ℕ, ◌+◌, ◌-◌, ◌*◌, ◌/◌, ◌%◌, ◌≤◌, ◌<◌, leb, Float, length, get_or, set}
+use Rattle.std.specs.Prelude.{◌≡◌, Bool, ◌&&◌, List, ℕ, ◌+◌, ◌-◌, ◌*◌, ◌/◌, ◌%◌, ◌≤◌, ◌<◌, leb, Float, length, get_or, replicate}
 use Rattle.std.proofs.Math.Path.{refl}
-use Rattle.std.proofs.Common.{sym, ◌∙◌, arith}
+use Rattle.std.proofs.Common.{sym, ◌∙◌, ⊎_elim, eq-zero-or-pos, rules, arith}
+use Rattle.std.proofs.lemmas.List.{ext_get_or, places}
 use Rattle.std.proofs.Math.Bool.{true, false, cond}
 use Rattle.std.proofs.Math.Dec.{ltb}
 use Rattle.std.specs.Float.Ieee.{nan}
 use borrow.Author.Tests.{lt-ltb, le-ltb, le-leb, lt-leb, leb-true, leb-false, ltb-true, ltb-false}
 use Rattle.floats.specs.Binary64.{zero64}
+use borrow.Rule.Slice.PartMut.{put_mid, mid_of}
 use Rattle.fill.specs.Tab.{tab}
 use Rattle.fill.proofs.TabLaws.{length-tab, get_or-tab, all-filled, tab-same}
-use Rattle.fill.proofs.ByTurn.{ByTurn, turn_more, turn-ends}
+use Rattle.fill.proofs.ByTurn.{ByTurn, turn-ends}
 use Rattle.mc_output.specs.declared.output.Mix.{Mix}
 use Rattle.mc_output.specs.Code.OutputByMix.{main_by, mixed_by, SecondFits, second_by, output_by, mixed_of_at, mixed_of, with_second_at, with_second, beyond_at, beyond}
 use Rattle.mc_output.proofs.Laws.OutputByMix.{length-dematrixed, second-value}
-use Rattle.mc_scale.proofs.Laws.TurnBlock.{turn-skip, turn-rest}
+use Rattle.fill.proofs.Part.{part-held, length-held, length-part, part-in, part-before, part-after}
 
 -- ---- +0 beyond the layout
 
-module _ (channels : ℕ) (d : List Float) (long : length d ≡ 5760) where
-  abbrev pub Clearing : List Float → ℕ → Type 0
-  Clearing dst k = ByTurn nan (λ (i : ℕ). i) (beyond_at channels d) 5760 d dst k
+pub cleared :
+    (channels : ℕ) (d : List Float) {zeros : List Float} {n : ℕ}
+    → length d ≡ 5760
+    → zeros ≡ replicate n zero64
+    → n ≡ 5760 - 1152 * channels
+    → channels ≤ 5
+    → put_mid (1152 * channels) (5760 - 1152 * channels) d zeros ≡ beyond channels d
+unfolding beyond
+cleared channels d {zeros} {n} long e en few =
+    ext_get_or nan _ _ (all ∙ sym (length-tab (beyond_at channels d) 5760))
+    (λ k h. let l : k < 5760 = rw (← all) h in rw (e, en) (at k l (ltb k first) refl) ∙ sym (get_or-tab nan (beyond_at channels d) 5760 k l))
+  where
+    first : ℕ
+    first = 1152 * channels
 
-  pub clearing-starts : Clearing d (1152 * channels)
-  clearing-starts =
-      record {
-        room = omega arith;
-        long = refl;
-        done = λ k l r. rw (lt-ltb k (1152 * channels) r);
-        kept = λ k l r. refl;
-        past = λ k l. refl;
-      }
+    all : length (put_mid (1152 * channels) (5760 - 1152 * channels) d zeros) ≡ 5760
+    all = rw (e, en) (search (rules, places))
 
-  pub clearing-more : (dst : List Float) (k : ℕ) → Clearing dst k → 1152 * channels ≤ k → k < 5760 → Clearing (set dst k zero64) (k + 1)
-  clearing-more dst k p h l = turn_more k p l refl (λ i m e. e) (rw (le-ltb k (1152 * channels) h))
-
-  pub clearing-ends : (dst : List Float) (k : ℕ) → Clearing dst k → 5760 ≤ k → dst ≡ beyond channels d
-  unfolding beyond
-  clearing-ends dst k p h = turn-ends p (λ i l. omega arith) ∙ all-filled (beyond_at channels d) 5760 d long
+    at :
+        (k : ℕ)
+        → k < 5760
+        → (b : Bool)
+        → ltb k (1152 * channels) ≡ b
+        → get_or (put_mid (1152 * channels) (5760 - 1152 * channels) d (replicate (5760 - 1152 * channels) zero64)) k nan ≡ cond b (get_or d k nan) zero64
+    at k l true t = let h = ltb-true k (1152 * channels) t in grind (arith, places)
+    at k l false t = let h = ltb-false k (1152 * channels) t in grind (arith, places)
 
 -- ---- a second stereo programme
 
-module _ (channels main limit : ℕ) (work d : List Float) (long : length d ≡ 5760) where
-  abbrev pub Laying : List Float → ℕ → Type 0
-  Laying dst i = ByTurn nan (λ (k : ℕ). k) (with_second_at channels main limit work d) 5760 d dst (1152 * (channels - 2) + i)
+-- two channels, with the programme below the subband limit
+abbrev pub below_limit : ℕ → ℕ → List Float → List Float → ℕ → Float
+below_limit main limit work part k = cond (ltb (k % 32) limit) (get_or work (1152 * main + k) nan) (get_or part k nan)
 
-  and-false : (a b : Bool) → (a && (b && false)) ≡ false
-  and-false true true = refl
-  and-false true false = refl
-  and-false false b = refl
+module _ (x : Mix) (work d : List Float) (long : length d ≡ 5760) (room : (2 ≤ x.channels) × (x.channels ≤ 5)) where
+  abbrev from : ℕ
+  from = 1152 * (x.channels - 2)
 
-  pub laying-starts : Laying d 0
-  laying-starts =
-      record {
-        room = omega arith;
-        long = refl;
-        done = λ k l r. rw (lt-leb (1152 * (channels - 2)) k (omega arith));
-        kept = λ k l r. refl;
-        past = λ k l. refl;
-      }
+  abbrev two : List Float
+  two = tab (below_limit x.main x.limit work (mid_of from 2304 d)) 2304
 
-  pub laying-more :
-      (dst : List Float) (i : ℕ)
-      → Laying dst i
-      → i < 2304
-      → channels ≤ 5
-      → i % 32 < limit
-      → Laying (set dst (1152 * (channels - 2) + i) (get_or work (1152 * main + i) nan)) (i + 1)
-  laying-more dst i p h c low =
-      let at = 1152 * (channels - 2) in
-      let k = at + i in
-      let e : at + (i + 1) ≡ at + i + 1 = omega arith in
-      let m : (at + i) % 32 ≡ i % 32 = omega arith in
-      let b : at + i - at ≡ i = omega arith in
-      rw e
-      (turn_more k p (omega arith) refl (λ j l q. q)
-      (rw (le-leb at (at + i) (omega arith), lt-ltb (at + i) (at + 2304) (omega arith), m, lt-ltb (i % 32) limit low, b)))
+  two-long : length two ≡ 2304
+  two-long = length-tab (below_limit x.main x.limit work (mid_of from 2304 d)) 2304
 
-  pub laying-skip : (dst : List Float) (i : ℕ) → Laying dst i → limit ≤ i % 32 → Laying dst (i + 1)
-  laying-skip dst i p high =
-      let at = 1152 * (channels - 2) in
-      let e : at + (i + 1) ≡ at + i + 1 = omega arith in
-      rw e
-      (turn-skip p
-      (λ k l q. let m : k % 32 ≡ i % 32 = omega arith in
-      rw (m, le-ltb (i % 32) limit high, and-false (leb at k) (ltb k (at + 2304)))))
+  there : from + 2304 ≤ length d
+  there = omega arith
 
-  pub laying-ends : (dst : List Float) (i : ℕ) → Laying dst i → 2304 ≤ i → dst ≡ tab (with_second_at channels main limit work d) 5760
-  laying-ends dst i p h =
-      let at = 1152 * (channels - 2) in
-      turn-rest p (λ k l q. rw (le-ltb k (at + 2304) (omega arith)) (pick (leb at k) (get_or work (1152 * main + (k - at)) nan) (get_or d k nan)))
-      ∙ all-filled (with_second_at channels main limit work d) 5760 d long
+  element-of : (k : ℕ) → k < 5760 → get_or (put_mid from 2304 d two) k nan ≡ with_second_at x.channels x.main x.limit work d k
+  element-of k h =
+      ⊎_elim
+      (λ e. let l : from ≤ k = omega arith in
+      ⊎_elim
+      (λ past. let r : from + 2304 ≤ k = omega arith in part-after nan from 2304 d two two-long there k r ∙ rw (le-leb from k l, le-ltb k (from + 2304) r))
+      (λ inside. let r : k < from + 2304 = omega arith in
+      let m : (k - from) % 32 ≡ k % 32 = omega arith in
+      part-in nan from 2304 d two two-long there k l r
+      ∙ (get_or-tab nan (below_limit x.main x.limit work (mid_of from 2304 d)) 2304 (k - from) (omega arith)
+      ∙ rw (le-leb from k l, lt-ltb k (from + 2304) r, m, part-held nan from 2304 d k l r)))
+      (eq-zero-or-pos (from + 2304 - k)))
+      (λ e. let l : k < from = omega arith in part-before nan from 2304 d two two-long there k l ∙ rw (lt-leb from k l))
+      (eq-zero-or-pos (from - k))
+
+  over : put_mid from 2304 d two ≡ with_second x work d
+  unfolding with_second
+  over =
+      let all = length-part nan from 2304 d two two-long there ∙ long in
+      ext_get_or nan _ _ (all ∙ sym (length-tab (with_second_at x.channels x.main x.limit work d) 5760))
+      (λ k h. let l : k < 5760 = rw (← all) h in element-of k l ∙ sym (get_or-tab nan (with_second_at x.channels x.main x.limit work d) 5760 k l))
+
+  -- after a loop over the two channels
+  pub laid-over :
+      {n : ℕ} {dst : List Float} {i : ℕ}
+      → n ≡ 2304
+      → ByTurn nan (λ (k : ℕ). k) (below_limit x.main x.limit work (mid_of from n d)) 2304 (mid_of from n d) dst i
+      → length (mid_of from n d) ≤ i
+      → put_mid from n d dst ≡ with_second x work d
+  laid-over {n} {dst} {i} e p h = rw (e, all) over
     where
-      pick : (a : Bool) (x y : Float) → y ≡ cond (a && false) x y
-      pick true x y = refl
-      pick false x y = refl
-
-pub second-long : (x : Mix) (work d : List Float) → length (with_second x work d) ≡ 5760
-unfolding with_second
-second-long x work d = length-tab (with_second_at x.channels x.main x.limit work d) 5760
-
-pub beyond-long : (channels : ℕ) (d : List Float) → length (beyond channels d) ≡ 5760
-unfolding beyond
-beyond-long channels d = length-tab (beyond_at channels d) 5760
-
-pub mixed-all : (x : Mix) (tcs : List ℕ) (left right work : List Float) → length (mixed_of x tcs left right work) ≡ 5760
-unfolding mixed_of
-mixed-all x tcs left right work = length-tab (mixed_of_at x tcs left right work) 5760
+      all : dst ≡ two
+      all =
+          let long = length-held from 2304 d there in
+          let last = rw (e, long) at h in
+          turn-ends (rw e at p) (λ k l. omega arith) ∙ all-filled (below_limit x.main x.limit work (mid_of from 2304 d)) 2304 (mid_of from 2304 d) long
 
 -- ---- the three passes give the output
 

@@ -1,13 +1,10 @@
 -- Laws of `place_in`: it finds an element where that stands, and each predicted channel stands once.
-use Rattle.std.specs.Prelude.{◌≡◌, refl, Bool, true, false, cond, List, [], ◌∷◌, ℕ, suc, ◌≤◌, ◌<◌, eqb, length, get_or}
-use Rattle.std.proofs.Common.{ap, ◌∙◌, arith, eqb→eq, eqb-true}
+use Rattle.std.specs.Prelude.{◌≡◌, refl, Bool, true, false, cond, List, [], ◌∷◌, ℕ, suc, ◌<◌, ◌≤◌, eqb, length, get_or}
+use Rattle.std.proofs.Common.{arith, eqb→eq, eqb-true}
 use Rattle.mc_crosstalk.specs.Crosstalk.{sources1, sources2, sources3, predicted_of}
 use Rattle.mc_crosstalk.specs.Crosstalk
 use Rattle.mc_crosstalk.proofs.CrosstalkLaws.{sources-pass, predicted-below, predicted-most}
 use Rattle.mc_config.proofs.ConfigLaws.{main-most}
-use Rattle.mc_predictors.specs.Channels.{channels_record}
-use Rattle.mc_config.proofs.RecordsLaws.{padded-at}
-use Rattle.mc_predictors.specs.declared.Channels.{Channels}
 use Rattle.mc_config.proofs.TableLaws.{every, every-at}
 use Rattle.mc_predict.specs.Predict.{place_in}
 
@@ -35,22 +32,8 @@ predicted-once pair mode k h =
     k
     h)
 
--- what a loop over the predicted channels, a count and an array, knows of them
-pub record Listed (l : List ℕ) (count : ℕ) (channels : List ℕ) : Type 0 where
-  pub all : count ≡ length l
-  pub few : count ≤ 3
-  pub at : (k : ℕ) → get_or channels k 0 ≡ get_or l k 0
-  pub low : (k : ℕ) → k < count → get_or l k 0 < 3
-  pub once : (k : ℕ) → k < count → place_in l (get_or l k 0) ≡ k
+pub predicted-low : (pair mode k : ℕ) → k < length (predicted_of pair mode) → get_or (predicted_of pair mode) k 0 < 3
+predicted-low pair mode k h = omega (arith, predicted-below pair mode k h, main-most pair)
 
-pub predicted-listed : (pair mode : ℕ) {r : Channels} → r ≡ channels_record pair mode → Listed (predicted_of pair mode) r.count r.channels
-predicted-listed pair mode {r} e =
-    let l = predicted_of pair mode in
-    let n : r.count ≡ length l = ap (λ (x : Channels). x.count) e in
-    record {
-      all = n;
-      few = omega (arith, predicted-most pair mode, main-most pair);
-      at = λ k. ap (λ (x : Channels). get_or x.channels k 0) e ∙ padded-at 3 0 l k;
-      low = λ k h. omega (arith, predicted-below pair mode k (omega arith), main-most pair);
-      once = λ k h. predicted-once pair mode k (omega arith);
-    }
+pub predicted-few : (pair mode : ℕ) {channels : List ℕ} → channels ≡ predicted_of pair mode → length channels ≤ 3
+predicted-few pair mode e = rw e (omega (arith, predicted-most pair mode, main-most pair))

@@ -1,9 +1,9 @@
 -- The tables of the places give the scaled values of the definition, and the loop over the places gives those of the tables.
-use Rattle.std.specs.Prelude.{◌≡◌, List, ℕ, ◌+◌, ◌*◌, ◌/◌, ◌%◌, ◌≤◌, ◌<◌, Float, get_or, length}
+use Rattle.std.specs.Prelude.{◌≡◌, List, ℕ, ◌+◌, ◌*◌, ◌/◌, ◌%◌, ◌≤◌, ◌<◌, Float, get_or, length, replicate}
 use Rattle.std.proofs.Common.{◌∙◌, eq-eqb, ne_eqb}
+use Rattle.std.proofs.lemmas.List.{get_or-replicate}
 use native.Mathlib.Omega.{arith}
 use Rattle.std.specs.Float.{nan}
-use Rattle.fill.specs.Tab.{tab}
 use Rattle.fill.proofs.TabLaws.{get_or-tab, all-filled, tab-same}
 use Rattle.fill.proofs.ByTurn.{ByTurn, turn-ends}
 use Rattle.floats.specs.Binary64.{zero64}
@@ -81,11 +81,11 @@ module _ (steps source base : List ℕ) (factors raw left right : List Float) wh
         rw (e', e, strided-same {f = scaled_from (get_or source (place_at i) 0) (get_or base (place_at i) 0) factors raw left right (place_at i)} {g = place_scaled steps source base factors raw left right (place_at i)} 32 (column_at (place_at i)) work 36 (λ j l. rw (ne_eqb (get_or steps (place_at i) 0) 0 n)))
         (turn-column (place_scaled steps source base factors raw left right) p h)
 
-    pub scaling-skip : get_or steps (place_at i) 0 ≡ 0 → (n : ℕ) → n ≡ 3456 → d ≡ tab (λ (k : ℕ). zero64) n → work' ≡ work → Scaling d work' (i + 1)
+    pub scaling-skip : get_or steps (place_at i) 0 ≡ 0 → (n : ℕ) → n ≡ 3456 → d ≡ replicate n zero64 → work' ≡ work → Scaling d work' (i + 1)
     scaling-skip z n en e e' =
         rw e'
         (skip-column (place_scaled steps source base factors raw left right) p
-        (λ k l. rw (e, en, eq-eqb (get_or steps (place_at i) 0) 0 z) (get_or-tab nan (λ (k : ℕ). zero64) 3456 k l)))
+        (λ k l. rw (e, en, eq-eqb (get_or steps (place_at i) 0) 0 z) (get_or-replicate 3456 k zero64 nan l)))
 
   pub scaling-ends : (d work : List Float) (i : ℕ) → Scaling d work i → 96 ≤ i → length d ≡ 3456 → work ≡ scaled_by_place steps source base factors raw left right
   unfolding scaled_by_place

@@ -1,6 +1,5 @@
 -- `mc_scale::scale_column` meets its contract. The loop writes the slots of one column.
 use mathlib.Core.Path.{refl}
-use Prim.Native.Nat.{◌-◌}
 use Rattle.mc_scale.proofs.Laws.Strided.{stride-starts, stride-more, stride-ends}
 use native.Mathlib.Omega.{arith}
 use Rattle.mc_scale.proofs.scale_column.Goals as goal
@@ -10,9 +9,6 @@ loop-slot-init c = stride-starts
 
 pub loop-slot-preserved : goal.loop-slot-preserved
 loop-slot-preserved c = stride-more c.loop-slot.invariant (omega arith) refl
-
-pub shape_of-work : goal.shape_of-work
-shape_of-work c = c.loop-slot.invariant.long
 
 pub returns : goal.returns
 returns c = stride-ends c.loop-slot.invariant (omega arith)

@@ -1,11 +1,7 @@
 -- `mc_scale::scale_column` meets its contract. The loop writes the slots of one column.
-use Prim.Native.Nat.{◌-◌}
 use Rattle.mc_scale.specs.Code.ScaleByPlace.{times_factor}
 use Rattle.mc_scale.proofs.Laws.Strided.{Striding}
 use Rattle.mc_scale.proofs.scale_column.Given as goal
 
 abbrev pub invariant-loop-slot : goal.invariant-loop-slot
 invariant-loop-slot l = Striding 32 36 (times_factor l.src l.from l.factors l.place) l.at l.initial.work l.work l.slot
-
-abbrev pub decreases-loop-slot : goal.decreases-loop-slot
-decreases-loop-slot l = 36 - l.slot

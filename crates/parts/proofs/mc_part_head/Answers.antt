@@ -1,11 +1,20 @@
 -- `parts::mc_part_head` meets its contract.
-use Rattle.parts.proofs.PartsLaws.{wrong-room, right-room}
+use Rattle.parts.proofs.PartsLaws.{packs-accepted, packs-refused, writes-accepted, writes-refused, wrong-room, right-room}
 use Rattle.parts.proofs.mc_part_head.Goals as goal
 
 pub returns-then-out-ne-HEAD_BYTES : goal.returns-then-out-ne-HEAD_BYTES
 returns-then-out-ne-HEAD_BYTES c = let a = c.args in wrong-room a.reading a.bytes.now a.bits a.base_channels _ c.if-out-ne-HEAD_BYTES.true a.out.now
 
-pub returns : goal.returns
-returns c =
+pub returns-in-Ok : goal.returns-in-Ok
+returns-in-Ok c =
     let a = c.args in
-    right-room a.reading a.bytes.now a.bits a.base_channels _ c.if-out-ne-HEAD_BYTES.false c.read_head-head.result c.read_head-head.ensures.answer _ c.pack.ensures a.out.now _ c.write_head.ensures
+    let r = c.read_head.result in
+    right-room a.reading a.bytes.now a.bits a.base_channels _ c.if-out-ne-HEAD_BYTES.false r c.read_head.ensures _ (packs-accepted r _ c.in-Ok.is) a.out.now _
+    (writes-accepted r _ a.out.now _ c.in-Ok.is c.write_fields.ensures)
+
+pub returns-in-Err : goal.returns-in-Err
+returns-in-Err c =
+    let a = c.args in
+    let r = c.read_head.result in
+    right-room a.reading a.bytes.now a.bits a.base_channels _ c.if-out-ne-HEAD_BYTES.false r c.read_head.ensures _ (packs-refused r _ _ c.in-Err.is c.pack_refusal.ensures) a.out.now _
+    (writes-refused r _ a.out.now c.in-Err.is)

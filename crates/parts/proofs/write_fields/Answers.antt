@@ -15,4 +15,4 @@ shape_of-out c = c.loop-k.invariant.long
 
 pub returns : goal.returns
 returns c =
-    all-bytes c.args.header c.args.word c.args.status _ _ c.first_bytes-first.ensures (ends-all c.loop-k.invariant (omega arith) c.requires)
+    all-bytes c.args.header c.args.word c.args.status _ _ c.first_bytes-first.ensures (rw c.from-lr.ensures at (ends-all c.loop-k.invariant (omega arith) c.requires))

@@ -1,11 +1,7 @@
 -- `parts::write_fields` meets its contract. The loop fills the bytes in order.
-use Prim.Native.Nat.{◌-◌}
 use Rattle.fill.proofs.InOrder.{Filling}
 use Rattle.part_tables.specs.Parts.{byte_of}
 use Rattle.parts.proofs.write_fields.Given as goal
 
 abbrev pub invariant-loop-k : goal.invariant-loop-k
-invariant-loop-k l = Filling (byte_of l.first l.tc l.lr l.cross l.prediction) 110 l.initial.out l.out l.k
-
-abbrev pub decreases-loop-k : goal.decreases-loop-k
-decreases-loop-k l = 110 - l.k
+invariant-loop-k l = Filling (byte_of l.first l.status.tc_allocation l.lr l.status.dyn_cross l.status.mc_prediction) 110 l.initial.out l.out l.k

@@ -11,4 +11,4 @@ unfolding coefficient_of
 value byte = ap₂ (λ (x y : Float). div binary64 (sub binary64 (whole byte) x) y) literal-127 literal-32
 
 pub returns : goal.returns
-returns c = value c.args.byte
+returns c = rw c.from.ensures (value c.args.byte)

@@ -46,4 +46,4 @@ module _ (nb : ℕ) (g : 2 ≤ nb) (h : nb ≤ 16) where
   value code x e = ap₂ (mul binary64) factor (ap₂ (add binary64) e shift)
 
 pub returns : goal.returns
-returns c = search value
+returns c = rw (c.from-t.ensures, c.from.ensures) (search value)

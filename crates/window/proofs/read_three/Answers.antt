@@ -1,42 +1,28 @@
 -- `window::read_three` meets its contract.
-use native.Mathlib.Omega.{arith}
-use Rattle.window.proofs.ThreeLaws.{value-two, three-window, three-read}
-use Rattle.window.proofs.Window.{word_small}
-use Rattle.window.proofs.field_of.Reads as field-of-reads
-use Rattle.cursor.proofs.read.Reads as read-reads
-use Rattle.window.proofs.wide.Reads as wide-reads
-use Rattle.window.proofs.word_at.Reads as word-at-reads
+use Rattle.std.proofs.Common.{refl, arith}
+use Rattle.bit_reader.proofs.ReadLaws.{returned, field-on, field-stops}
+use Rattle.window.specs.Three.{three}
+use Rattle.window.proofs.ThreeLaws.{three-window, three-read}
 use Rattle.window.proofs.read_three.Goals as goal
 
-pub word_at-requires : goal.word_at-requires
-word_at-requires c = let w = (c.wide.ensures c.if-wide.true).bytes in omega arith
+pub returns-clause-reads : goal.returns-clause-reads
+returns-clause-reads c =
+    three-window _ _ _ _ refl refl refl (omega arith) c.requires c.in-Some.ensures _ _ _ c.field_of.ensures c.field_of-2.ensures c.field_of-3.ensures
 
-pub overflow_mul-window : goal.overflow_mul-window
-overflow_mul-window c = omega (arith, word_small _ _ _ c.word_at.ensures)
+pub returns-in_err-read-clause-reads : goal.returns-in_err-read-clause-reads
+unfolding three
+returns-in_err-read-clause-reads c = returned _ _ c.from_residual.ensures.1 (field-stops c.in_err-read.ensures.reads)
 
-pub word_at-requires-then-wide : goal.word_at-requires-then-wide
-word_at-requires-then-wide c = let w = (c.wide.ensures c.if-wide.true).bytes in omega arith
+pub returns-in_err-read-2-clause-reads : goal.returns-in_err-read-2-clause-reads
+unfolding three
+returns-in_err-read-2-clause-reads c =
+    returned _ _ c.from_residual-in_err-read-2.ensures.1 (field-on c.in_ok-read.ensures.reads (field-stops c.in_err-read-2.ensures.reads))
 
-pub overflow_add-window : goal.overflow_add-window
-overflow_add-window c = omega (arith, word_small _ _ _ c.word_at.ensures, word_small _ _ _ c.word_at-then-wide.ensures)
+pub returns-in_err-read-3-clause-reads : goal.returns-in_err-read-3-clause-reads
+unfolding three
+returns-in_err-read-3-clause-reads c =
+    returned _ _ c.from_residual-in_err-read-3.ensures.1
+    (field-on c.in_ok-read.ensures.reads (field-on c.in_ok-read-2.ensures.reads (field-stops c.in_err-read-3.ensures.reads)))
 
-pub field_of-requires : goal.field_of-requires
-field_of-requires c = let w = (c.wide.ensures c.if-wide.true).some in (omega arith, omega arith, omega arith)
-
-pub field_of-requires-then-wide : goal.field_of-requires-then-wide
-field_of-requires-then-wide c = let w = (c.wide.ensures c.if-wide.true).some in (omega arith, omega arith, omega arith)
-
-pub overflow_add-result : goal.overflow_add-result
-overflow_add-result c = let w = (c.wide.ensures c.if-wide.true).within in omega arith
-
-pub field_of-requires-then-wide-2 : goal.field_of-requires-then-wide-2
-field_of-requires-then-wide-2 c = let w = (c.wide.ensures c.if-wide.true).some in (omega arith, omega arith, omega arith)
-
-pub returns-then-wide : goal.returns-then-wide
-returns-then-wide c =
-    let a = c.args in
-    let ew = value-two a.bytes.now _ _ _ c.word_at.ensures c.word_at-then-wide.ensures in
-    three-window a.bytes.now a.limit a.c a.n _ _ c.if-c-eq0.true (c.wide.ensures c.if-wide.true) c.requires ew _ _ _ c.field_of.ensures c.field_of-then-wide.ensures c.field_of-then-wide-2.ensures
-
-pub returns : goal.returns
-returns c = three-read _ _ _ _ _ _ _ c.read-x.ensures c.read-y.ensures c.read-z.ensures
+pub returns-2-clause-reads : goal.returns-2-clause-reads
+returns-2-clause-reads c = three-read _ _ _ _ c.in_ok-read.ensures.reads c.in_ok-read-2.ensures.reads c.in_ok-read-3.ensures.reads

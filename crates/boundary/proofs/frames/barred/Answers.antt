@@ -2,4 +2,4 @@
 use Rattle.boundary.proofs.frames.barred.Goals as goal
 
 pub returns : goal.returns
-returns c = rw (c.new-loan.ensures, c.plain_head.ensures, c.first_steps-steps.ensures)
+returns c = rw (c.new.ensures, c.plain_head.ensures, c.first_steps.ensures)

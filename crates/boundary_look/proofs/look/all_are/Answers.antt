@@ -1,14 +1,15 @@
--- `boundary_look::look::all_are` meets its contract: at k the flag is the test of the first k values.
-use Prim.Native.Nat.{◌-◌}
-use native.Mathlib.Omega.{arith}
-use Rattle.fill.proofs.EachLaws.{each_start, each_next, each-end}
+-- `boundary_look::look::all_are` meets its contract.
 use Rattle.boundary_look.proofs.look.all_are.Goals as goal
-
-pub loop-k-init : goal.loop-k-init
-loop-k-init c = (omega arith, each_start _)
-
-pub loop-k-preserved : goal.loop-k-preserved
-loop-k-preserved c = (omega arith, each_next _ _ _ _ c.loop-k.invariant.1 c.same-are.ensures)
+use Rattle.std.proofs.Common.{◌∙◌, refl, rules, get_or}
+use Rattle.std.specs.Float.{nan}
+use borrow.Author.Tests.{tests}
+use Rattle.std.proofs.lemmas.Iterator.{YieldsList-from_slice}
+use Rattle.std.proofs.lemmas.Iterator.Search.{all_from_yields_List}
+use Rattle.boundary_look.specs.Look.{same}
+use Rattle.boundary_look.proofs.LookLaws.{each-list}
 
 pub returns : goal.returns
-returns c = each-end _ _ _ _ c.loop-k.invariant.1 c.loop-k.invariant.0 (omega arith)
+returns c =
+    let a = c.args in
+    all_from_yields_List (λ y. same y a.x) _ _ _ c.all.ensures.ran (YieldsList-from_slice a.xs.now cc) (λ y b q k. search (rules, tests))
+    ∙ each-list (λ y. same y a.x) nan (λ k. same (get_or a.xs.now k nan) a.x) a.xs.now (λ k l. refl)

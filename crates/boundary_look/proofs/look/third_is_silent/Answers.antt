@@ -1,14 +1,8 @@
--- `boundary_look::look::third_is_silent` meets its contract: at k the flag is the test of the first k values.
-use Prim.Native.Nat.{◌-◌}
-use native.Mathlib.Omega.{arith}
-use Rattle.fill.proofs.EachLaws.{each_start, each_next, each-end}
+-- `boundary_look::look::third_is_silent` meets its contract.
+use Rattle.std.proofs.Common.{◌∙◌, arith}
+use Rattle.floats.specs.Binary64.{zero64}
+use Rattle.boundary_look.proofs.LookLaws.{part-is}
 use Rattle.boundary_look.proofs.look.third_is_silent.Goals as goal
 
-pub loop-k-init : goal.loop-k-init
-loop-k-init c = (omega arith, each_start _)
-
-pub loop-k-preserved : goal.loop-k-preserved
-loop-k-preserved c = (omega arith, each_next _ _ _ _ c.loop-k.invariant.1 c.same-are.ensures)
-
 pub returns : goal.returns
-returns c = each-end _ _ _ _ c.loop-k.invariant.1 c.loop-k.invariant.0 (omega arith)
+returns c = c.all_are.ensures ∙ part-is c.args.output.now 2304 1152 (omega arith) zero64

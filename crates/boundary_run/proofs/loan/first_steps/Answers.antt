@@ -1,14 +1,9 @@
--- `boundary_run::loan::first_steps` meets its contract. The loop fills the list in order.
-use native.Mathlib.Omega.{arith}
-use borrow.Author.Rules.{rules}
-use Rattle.fill.proofs.InOrder.{starts, more, ends-all}
+-- `boundary_run::loan::first_steps` meets its contract.
+use Rattle.std.proofs.Common.{rules}
+use borrow.Author.Tests.{tests}
+use Rattle.boundary_run.specs.Loan.{step_at}
+use Rattle.boundary_run.proofs.LoanLaws.{made-tab}
 use Rattle.boundary_run.proofs.loan.first_steps.Goals as goal
 
-pub loop-k-init : goal.loop-k-init
-loop-k-init c = starts (search rules)
-
-pub loop-k-preserved : goal.loop-k-preserved
-loop-k-preserved c = more c.loop-k.invariant (omega arith) c.step_at.ensures
-
 pub returns : goal.returns
-returns c = ends-all c.loop-k.invariant (omega arith) (search rules)
+returns c = let a = c.args in made-tab _ _ (step_at a.channels a.subbands a.count) (λ k y q m. search (rules, tests)) _ _ c.from_fn.ensures.items

@@ -1,15 +1,10 @@
 -- `boundary_run::string::put` meets its contract: what is left to put into the places so far is the whole.
-use mathlib.Core.Path.{refl, sym, ◌∙◌}
-use native.Mathlib.Omega.{arith}
-use lib.ListN.{length-set}
+use Rattle.std.proofs.Common.{sym, ◌∙◌, arith, length-set}
 use Rattle.boundary_run.proofs.StringLaws.{put_one, put-none}
 use Rattle.boundary_run.proofs.string.put.Goals as goal
 
-pub loop-left-init : goal.loop-left-init
-loop-left-init c = (omega arith, refl, refl)
-
-pub loop-left-preserved : goal.loop-left-preserved
-loop-left-preserved c = (omega arith, simp length-set c.loop-left.invariant.1, put_one _ _ _ _ _ (omega arith) c.loop-left.invariant.2)
+pub loop-k-preserved : goal.loop-k-preserved
+loop-k-preserved c = (simp length-set c.loop-k.invariant.0, put_one _ _ _ _ _ (omega arith) c.loop-k.invariant.1)
 
 pub returns : goal.returns
-returns c = sym (c.loop-left.invariant.2 ∙ put-none _ _ _ _ (omega arith))
+returns c = sym (c.loop-k.invariant.1 ∙ put-none _ _ _ _ (omega arith))

@@ -1,28 +1,31 @@
 -- `mc_allocations::allocations::allocations_fit` meets its contract.
-use mathlib.Core.Path.{ap}
-use mathlib.Core.Bool.{true, not}
-use Prim.Native.Nat.{◌-◌}
-use native.Mathlib.Omega.{arith}
-use Rattle.mc_allocations.specs.AllocationsBy.{allocation_at}
-use Rattle.fill.proofs.EachLaws.{each_none, each_left, each_on, each_all}
-use Rattle.mc_allocations.proofs.AllocationsLaws.{allocations-refused, allocations-none, allocations-lfe}
+use Rattle.std.specs.Prelude.{◌≡◌, true, false, length}
+use Rattle.std.proofs.Common.{rules, sym, ◌∙◌, eq-eqb, ne_eqb}
+use Rattle.fill.specs.Each.{each}
+use Rattle.mc_payload.specs.Unpack.{allocation_fits, allocations_fit}
+use Rattle.mc_allocations.proofs.AllocationsLaws.{allocations-tested}
 use Rattle.mc_allocations.proofs.allocations.allocations_fit.Goals as goal
 
-pub loop-k-init : goal.loop-k-init
-loop-k-init c = (omega arith, each_none _)
-
-pub returns-then-not-allocation_fits : goal.returns-then-not-allocation_fits
-returns-then-not-allocation_fits c =
-    let a = c.args in
-    allocations-refused _ _ c.requires (each_left (allocation_at a.s.nb_steps a.own.now) 96 c.loop-k.k (omega arith) _ c.allocation_fits.ensures (ap not c.if-not-allocation_fits.true))
-
-pub loop-k-preserved : goal.loop-k-preserved
-loop-k-preserved c = (omega arith, search each_on)
-
 pub returns-then-s-eq0 : goal.returns-then-s-eq0
+unfolding allocations_fit
 returns-then-s-eq0 c =
-    allocations-none _ _ c.requires (each_all _ 96 _ (omega arith) (omega arith) c.loop-k.invariant.1) c.if-s-eq0.true
+    let s = c.args.s.now in
+    let long : length s.nb_steps ≡ 96 = search rules in
+    let e : each (allocation_fits s) 96 ≡ true = sym (c.all_fit.ensures ∙ allocations-tested s _ c.requires long) ∙ c.if-all_fit.true in
+    rw (e, eq-eqb _ 0 c.if-s-eq0.true)
 
-pub returns : goal.returns
-returns c =
-    allocations-lfe _ _ c.requires (each_all _ 96 _ (omega arith) (omega arith) c.loop-k.invariant.1) c.if-s-eq0.false
+pub returns-else-s-eq0 : goal.returns-else-s-eq0
+unfolding allocations_fit
+returns-else-s-eq0 c =
+    let s = c.args.s.now in
+    let long : length s.nb_steps ≡ 96 = search rules in
+    let e : each (allocation_fits s) 96 ≡ true = sym (c.all_fit.ensures ∙ allocations-tested s _ c.requires long) ∙ c.if-all_fit.true in
+    rw (e, ne_eqb _ 0 c.if-s-eq0.false)
+
+pub returns-else-all_fit : goal.returns-else-all_fit
+unfolding allocations_fit
+returns-else-all_fit c =
+    let s = c.args.s.now in
+    let long : length s.nb_steps ≡ 96 = search rules in
+    let e : each (allocation_fits s) 96 ≡ false = sym (c.all_fit.ensures ∙ allocations-tested s _ c.requires long) ∙ c.if-all_fit.false in
+    rw e c.if-all_fit.false

@@ -1,12 +1,10 @@
 -- `mc_codes::granules::codeword_of` meets its contract.
-use Rattle.mc_codes.proofs.ClassLaws.{found-fits, found-bits, found-grouped, unknown-bits, unknown-grouped}
+use Rattle.std.proofs.Common.{arith}
+use Rattle.mc_codes.proofs.ClassLaws.{codeword-most}
 use Rattle.mc_codes.proofs.granules.codeword_of.Goals as goal
 
 pub overflow_cast-result : goal.overflow_cast-result
-overflow_cast-result c = search found-fits
+overflow_cast-result c = rw c.class_or_zero-class.ensures (record { fits = omega (arith, codeword-most c.args.nb_steps) })
 
-pub returns-in-Found : goal.returns-in-Found
-returns-in-Found c = (search found-bits, search found-grouped)
-
-pub returns-in-Unknown : goal.returns-in-Unknown
-returns-in-Unknown c = (search unknown-bits, search unknown-grouped)
+pub returns : goal.returns
+returns c = rw c.class_or_zero-class.ensures

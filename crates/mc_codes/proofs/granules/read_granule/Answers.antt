@@ -1,36 +1,44 @@
 -- `mc_codes::granules::read_granule` meets its contract.
-use mathlib.Core.Path.{refl}
-use Prim.Native.Nat.{◌-◌}
-use native.Mathlib.Omega.{arith}
-use lib.ListN.{length-set}
-use borrow.Author.Rules.{rules}
-use Rattle.cursor.proofs.CursorLaws.{cur-fits}
-use Rattle.mc_codes.proofs.GranulesRead.{kept-length, lfe-width, width-below, samples-read, samples-skip, granule-end}
+use Rattle.std.specs.Prelude.{◌<◌, get_or}
+use Rattle.std.proofs.Common.{ne_eqb, eq-eqb, arith}
+use Rattle.bit_reader.proofs.ReadLaws.{field-on, field-stops, stays}
+use Rattle.mc_payload.specs.Payload.{samples_at, granule_at}
+use Rattle.mc_codes.specs.Parts.{samples_by}
+use Rattle.mc_codes.proofs.ClassLaws.{codeword-most}
+use Rattle.mc_codes.proofs.PartLaws.{returned-stored, next-turn, last-turn}
+use Rattle.mc_codes.proofs.GranuleLaws.{codeword-at, rest-empty}
 use Rattle.mc_codes.proofs.granules.read_granule.Goals as goal
-use Rattle.mc_codes.proofs.granules.read_granule.Goals.{then-own-i-ne0, else-own-i-ne0}
+use Rattle.mc_codes.proofs.granules.read_granule.Goals.{then-n-ne0+in_ok-read_samples, else-n-ne0}
 
-pub read-cursor-requires : goal.read-cursor-requires
-read-cursor-requires c = search (lfe-width, rules)
+pub returns-in_err-codes : goal.returns-in_err-codes
+unfolding granule_at
+returns-in_err-codes c = returned-stored _ _ _ c.from_residual.ensures.1 (field-stops (rw (c.bits_if.ensures, c.from.ensures) at c.in_err-codes.ensures.reads))
 
-pub overflow_cast-codes : goal.overflow_cast-codes
-overflow_cast-codes c = search (cur-fits, lfe-width, rules)
+pub read_samples-requires : goal.read_samples-requires
+read_samples-requires c =
+    let h : c.loop-i.i < 96 = omega arith in
+    (rw (codeword-at _ _ _ c.requires.table c.loop-i.i h) (codeword-most (get_or c.args.own.now c.loop-i.i 0)), omega arith)
 
-pub loop-i-init : goal.loop-i-init
-loop-i-init c = (omega arith, c.requires.tables.2.most, simp length-set (omega arith), refl)
-
-pub read_samples-cursor-requires : goal.read_samples-cursor-requires
-read_samples-cursor-requires c = (search width-below, omega arith)
+pub returns-in_err-read_samples : goal.returns-in_err-read_samples
+unfolding granule_at samples_at samples_by
+returns-in_err-read_samples c =
+    let h : c.loop-i.i < 96 = omega arith in
+    returned-stored _ _ _ c.from_residual-in_err-read_samples.ensures.1
+    (field-on (rw (c.bits_if.ensures, c.from.ensures) at c.in_ok-codes.ensures.reads)
+    (last-turn _ 96 _ c.loop-i.invariant h
+    (rw (ne_eqb _ 0 c.if-n-ne0.true) (rw (codeword-at _ _ _ c.requires.table c.loop-i.i h) at c.in_err-read_samples.ensures))))
 
 pub loop-i-preserved : goal.loop-i-preserved
+unfolding samples_at samples_by
 loop-i-preserved c =
-    let l = c.loop-i in
-    let read = samples-read c.args.bytes.now c.args.limit c.args.own.now c.args.gr _ l.cursor l.i l.codes l.invariant.3 c.args.end c.loop-i-test.true l.invariant.1 in
-    let skip = samples-skip c.args.bytes.now c.args.limit c.args.own.now c.args.gr _ l.cursor l.i l.codes l.invariant.3 c.args.end c.loop-i-test.true l.invariant.1 in (
-      omega arith,
-      l.invariant.1,
-      elim c.if-own-i-ne0.branch [ then-own-i-ne0 w ↦ search kept-length | else-own-i-ne0 w ↦ search kept-length ],
-      elim c.if-own-i-ne0.branch [ then-own-i-ne0 w ↦ read _ _ w.if-own-i-ne0.true _ c.requires.tables.0 _ c.requires.tables.1 _ _ w.read_samples-cursor.ensures w.codes-is w.cursor-is | else-own-i-ne0 w ↦ skip _ _ w.if-own-i-ne0.false w.codes-is w.cursor-is ],
-    )
+    let h : c.loop-i.i < 96 = omega arith in
+    elim c.if-n-ne0.branch [
+      | then-n-ne0+in_ok-read_samples w ↦ rw (w.reader-is, w.codes-is)
+          (next-turn _ 96 _ c.loop-i.invariant h
+          (rw (ne_eqb _ 0 w.if-n-ne0.true) (rw (codeword-at _ _ _ c.requires.table c.loop-i.i h) at w.in_ok-read_samples.ensures)))
+      | else-n-ne0 w ↦ rw (w.reader-is, w.codes-is) (next-turn _ 96 _ c.loop-i.invariant h (rw (eq-eqb _ 0 w.if-n-ne0.false) stays))
+    ]
 
 pub returns : goal.returns
-returns c = search granule-end
+unfolding granule_at
+returns c = field-on (rw (c.bits_if.ensures, c.from.ensures) at c.in_ok-codes.ensures.reads) (rest-empty _ _ _ c.loop-i.i (omega arith) c.loop-i.invariant)

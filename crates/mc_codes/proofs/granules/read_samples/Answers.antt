@@ -1,29 +1,29 @@
 -- `mc_codes::granules::read_samples` meets its contract.
-use native.Mathlib.Omega.{arith}
-use lib.ListN.{length-set}
-use mir.Syntax.{w16}
-use Rattle.cursor.proofs.CursorLaws.{cur-fits}
-use Rattle.window.proofs.ThreeLaws.{three-fits}
-use Rattle.mc_codes.proofs.GranulesRead.{group-ran, three-ran}
+use Rattle.std.specs.Prelude.{List, ℕ, get_or}
+use Rattle.bits.specs.Table.{set3}
+use Rattle.bits.specs.Syntax.{done, bind}
+use Rattle.bit_reader.proofs.ReadLaws.{goes-on, stops, field-on, field-stops, stays}
+use Rattle.window.specs.Three.{three}
+use Rattle.mc_codes.specs.Parts.{samples_by}
+use Rattle.mc_codes.proofs.PartLaws.{returned-stored}
 use Rattle.mc_codes.proofs.granules.read_samples.Goals as goal
 
-pub overflow_cast-codes : goal.overflow_cast-codes
-overflow_cast-codes c = search cur-fits
+pub returns-in_err-codes : goal.returns-in_err-codes
+unfolding samples_by
+returns-in_err-codes c = returned-stored _ _ _ c.from_residual.ensures.1 (rw c.if-codeword.true (field-stops (rw c.from-n.ensures at c.in_err-codes.ensures.reads)))
 
-pub returns-then-grouped : goal.returns-then-grouped
-returns-then-grouped c = search group-ran
+pub returns-in_err-first : goal.returns-in_err-first
+unfolding samples_by three bind
+returns-in_err-first c =
+    let k = λ (t : List ℕ). done (set3 c.args.codes.now c.args.j (get_or t 0 0) (get_or t 1 0) (get_or t 2 0)) in
+    returned-stored _ _ _ c.from_residual-in_err-first.ensures.1 (rw c.if-codeword.false (stops k (rw c.from-n.ensures at c.in_err-first.ensures.reads)))
 
-pub overflow_cast-codes-2 : goal.overflow_cast-codes-2
-overflow_cast-codes-2 c = (three-fits w16 _ _ _ _ _ c.read_three-three.ensures (omega (arith, c.requires))).0
+pub returns-in_ok-codes : goal.returns-in_ok-codes
+unfolding samples_by
+returns-in_ok-codes c = rw c.if-codeword.true (field-on (rw c.from-n.ensures at c.in_ok-codes.ensures.reads) stays)
 
-pub overflow_cast-codes-3 : goal.overflow_cast-codes-3
-overflow_cast-codes-3 c = (three-fits w16 _ _ _ _ _ c.read_three-three.ensures (omega (arith, c.requires))).1
-
-pub bounds-codes-j-3 : goal.bounds-codes-j-3
-bounds-codes-j-3 c = simp length-set (omega (arith, c.requires))
-
-pub overflow_cast-codes-4 : goal.overflow_cast-codes-4
-overflow_cast-codes-4 c = (three-fits w16 _ _ _ _ _ c.read_three-three.ensures (omega (arith, c.requires))).2
-
-pub returns : goal.returns
-returns c = search three-ran
+pub returns-in_ok-first : goal.returns-in_ok-first
+unfolding samples_by set3 three bind
+returns-in_ok-first c =
+    let k = λ (t : List ℕ). done (set3 c.args.codes.now c.args.j (get_or t 0 0) (get_or t 1 0) (get_or t 2 0)) in
+    rw c.if-codeword.false (goes-on k (rw c.from-n.ensures at c.in_ok-first.ensures.reads) stays)

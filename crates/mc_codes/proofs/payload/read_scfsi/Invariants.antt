@@ -1,13 +1,9 @@
 -- `mc_codes::payload::read_scfsi` meets its contract.
-use mathlib.Core.Path.{◌≡◌}
-use Prim.Native.Nat.{◌-◌, ◌≤◌}
+use Rattle.std.specs.Prelude.{◌-◌}
 use Rattle.bits.specs.Syntax.{times}
-use Rattle.cursor.specs.Cursor.{run_from}
+use Rattle.bit_reader.specs.Reads.{Goes}
 use Rattle.mc_payload.specs.Payload.{scfsi_at, scfsi}
 use Rattle.mc_codes.proofs.payload.read_scfsi.Given as goal
 
 abbrev pub invariant-loop-i : goal.invariant-loop-i
-invariant-loop-i l = (l.i ≤ 96) × (run_from l.bytes l.limit l.initial.cursor (scfsi l.steps) ≡ run_from l.bytes l.limit l.cursor (times (96 - l.i) l.i (scfsi_at l.steps) l.codes))
-
-abbrev pub decreases-loop-i : goal.decreases-loop-i
-decreases-loop-i l = 96 - l.i
+invariant-loop-i l = Goes l.fn.reader (scfsi l.steps) l.reader (times (96 - l.i) l.i (scfsi_at l.steps) l.codes)

@@ -1,26 +1,25 @@
 -- `mc_codes::predictors::read_predictor` meets its contract.
-use lib.Dec.{lit≤}
-use Rattle.cursor.proofs.CursorLaws.{cur-fits}
-use Rattle.mc_codes.proofs.PredictorsRead.{width-most, predictor-ran}
+use Rattle.bit_reader.proofs.ReadLaws.{field-on, field-stops, stays}
+use Rattle.mc_codes.specs.Parts.{predictor_by}
+use Rattle.mc_codes.proofs.PartLaws.{returned-stored}
 use Rattle.mc_codes.proofs.predictors.read_predictor.Goals as goal
 
-pub read-y-requires : goal.read-y-requires
-read-y-requires c = search (width-most, lit≤)
+pub returns-in_err-delay : goal.returns-in_err-delay
+unfolding predictor_by
+returns-in_err-delay c q a = returned-stored _ _ _ c.from_residual.ensures.1 (field-stops c.in_err-delay.ensures.reads)
 
-pub read-z-requires : goal.read-z-requires
-read-z-requires c = search (width-most, lit≤)
+pub returns-in_err-first : goal.returns-in_err-first
+unfolding predictor_by
+returns-in_err-first c q a = returned-stored _ _ _ c.from_residual-in_err-first.ensures.1 (field-on c.in_ok-delay.ensures.reads (field-stops c.in_err-first.ensures.reads))
 
-pub overflow_cast-result : goal.overflow_cast-result
-overflow_cast-result c = search (cur-fits, lit≤)
+pub returns-in_err-second : goal.returns-in_err-second
+unfolding predictor_by
+returns-in_err-second c q a = returned-stored _ _ _ c.from_residual-in_err-second.ensures.1 (field-on c.in_ok-delay.ensures.reads (field-on c.in_ok-first.ensures.reads (field-stops (rw c.bits_if.ensures at c.in_err-second.ensures.reads))))
 
-pub overflow_cast-result-2 : goal.overflow_cast-result-2
-overflow_cast-result-2 c = search (cur-fits, lit≤)
-
-pub overflow_cast-result-3 : goal.overflow_cast-result-3
-overflow_cast-result-3 c = search (cur-fits, width-most, lit≤)
-
-pub overflow_cast-result-4 : goal.overflow_cast-result-4
-overflow_cast-result-4 c = search (cur-fits, width-most, lit≤)
+pub returns-in_err-third : goal.returns-in_err-third
+unfolding predictor_by
+returns-in_err-third c q a = returned-stored _ _ _ c.from_residual-in_err-third.ensures.1 (field-on c.in_ok-delay.ensures.reads (field-on c.in_ok-first.ensures.reads (field-on (rw c.bits_if.ensures at c.in_ok-second.ensures.reads) (field-stops (rw c.bits_if-2.ensures at c.in_err-third.ensures.reads)))))
 
 pub returns : goal.returns
-returns c = search predictor-ran
+unfolding predictor_by
+returns c q a = field-on c.in_ok-delay.ensures.reads (field-on c.in_ok-first.ensures.reads (field-on (rw c.bits_if.ensures at c.in_ok-second.ensures.reads) (field-on (rw c.bits_if-2.ensures at c.in_ok-third.ensures.reads) stays)))

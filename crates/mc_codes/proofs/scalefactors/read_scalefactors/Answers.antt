@@ -1,18 +1,30 @@
 -- `mc_codes::scalefactors::read_scalefactors` meets its contract.
-use mathlib.Core.Path.{refl}
-use Prim.Native.Nat.{◌-◌}
-use native.Mathlib.Omega.{arith}
-use Rattle.mc_payload.specs.Payload.{scalefactors}
-use Rattle.mc_codes.proofs.FactorsRead.{factors-read, factors-skip, factors-end}
+use Rattle.std.proofs.Common.{ne_eqb, eq-eqb, arith}
+use Rattle.bits.specs.Table.{set3}
+use Rattle.bit_reader.proofs.ReadLaws.{returned, stays}
+use Rattle.mc_payload.specs.Payload.{factors_at, scalefactors}
+use Rattle.mc_codes.proofs.PartLaws.{next-turn, last-turn, no-turn}
 use Rattle.mc_codes.proofs.scalefactors.read_scalefactors.Goals as goal
-use Rattle.mc_codes.proofs.scalefactors.read_scalefactors.Goals.{then-steps-i-ne0, else-steps-i-ne0}
+use Rattle.mc_codes.proofs.scalefactors.read_scalefactors.Goals.{then-n-ne0+in_ok-first, else-n-ne0}
 
 pub loop-i-init : goal.loop-i-init
 unfolding scalefactors
-loop-i-init c = (omega arith, refl)
+loop-i-init c = stays
+
+pub returns-in_err-first : goal.returns-in_err-first
+unfolding factors_at
+returns-in_err-first c =
+    returned _ _ c.from_residual.ensures.1
+    (last-turn _ 96 _ c.loop-i.invariant (omega arith) (rw (ne_eqb _ 0 c.if-n-ne0.true) (c.in_err-first.ensures _ c.loop-i.codes)))
 
 pub loop-i-preserved : goal.loop-i-preserved
-loop-i-preserved c = (omega arith, elim c.if-steps-i-ne0.branch [ then-steps-i-ne0 w ↦ search factors-read | else-steps-i-ne0 w ↦ search factors-skip ])
+unfolding factors_at set3
+loop-i-preserved c =
+    elim c.if-n-ne0.branch [
+      | then-n-ne0+in_ok-first w ↦ rw (w.reader-is, w.codes-is)
+          (next-turn _ 96 _ c.loop-i.invariant (omega arith) (rw (ne_eqb _ 0 w.if-n-ne0.true) (w.in_ok-first.ensures _ c.loop-i.codes)))
+      | else-n-ne0 w ↦ rw (w.reader-is, w.codes-is) (next-turn _ 96 _ c.loop-i.invariant (omega arith) (rw (eq-eqb _ 0 w.if-n-ne0.false) stays))
+    ]
 
 pub returns : goal.returns
-returns c = search factors-end
+returns c = no-turn _ 96 _ c.loop-i.invariant (omega arith)

@@ -1,7 +1,5 @@
 -- `mc_output::output::store_five` meets its contract. The loop writes one place of each channel.
-use mathlib.Core.Path.{refl}
-use Prim.Native.Nat.{◌-◌}
-use native.Mathlib.Omega.{arith}
+use Rattle.std.proofs.Common.{refl, arith}
 use Rattle.mc_scale.proofs.Laws.Strided.{stride-starts, stride-more, stride-ends}
 use Rattle.mc_output.proofs.output.store_five.Goals as goal
 
@@ -10,9 +8,6 @@ loop-ch-init c = stride-starts
 
 pub loop-ch-preserved : goal.loop-ch-preserved
 loop-ch-preserved c = stride-more c.loop-ch.invariant (omega arith) refl
-
-pub shape_of-output : goal.shape_of-output
-shape_of-output c = c.loop-ch.invariant.long
 
 pub returns : goal.returns
 returns c = stride-ends c.loop-ch.invariant (omega arith)

@@ -1,21 +1,14 @@
--- `mc_output::output::tcs_of` meets its contract. The loop fills the table in order.
-use Prim.Native.Nat.{◌-◌}
-use borrow.Author.Rules.{rules}
-use Rattle.fill.proofs.InOrder.{starts, more, ends-all}
+-- `mc_output::output::tcs_of` meets its contract.
+use Rattle.std.proofs.Common.{rules, get_or}
+use Rattle.mc_config.specs.Groups.{sbgr_of}
 use Rattle.mc_config.proofs.GroupsLaws.{sbgr-below}
+use Rattle.fill.proofs.FromFn.{tab-made}
 use Rattle.mc_output.specs.Code.OutputByMix.{tcs_of}
-use native.Mathlib.Omega.{arith}
 use Rattle.mc_output.proofs.output.tcs_of.Goals as goal
 
-pub loop-sb-init : goal.loop-sb-init
-loop-sb-init c = starts (search rules)
-
-pub bounds-tc-sbgr_of_subband : goal.bounds-tc-sbgr_of_subband
-bounds-tc-sbgr_of_subband c = omega (arith, c.sbgr_of_subband.ensures, sbgr-below c.loop-sb.sb)
-
-pub loop-sb-preserved : goal.loop-sb-preserved
-loop-sb-preserved c = more c.loop-sb.invariant (omega arith) (rw c.sbgr_of_subband.ensures)
+pub from_fn-requires : goal.from_fn-requires
+from_fn-requires c = search (rules, sbgr-below)
 
 pub returns : goal.returns
 unfolding tcs_of
-returns c = ends-all c.loop-sb.invariant (omega arith) (search rules)
+returns c = tab-made 0 (λ sb. get_or c.args.tc.now (sbgr_of sb) 0) c.from_fn.ensures.items (λ i low x after called. (search rules, search rules))

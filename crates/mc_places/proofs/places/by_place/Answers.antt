@@ -1,6 +1,5 @@
 -- `mc_places::places::by_place` meets its contract.
 use mathlib.Core.Path.{refl}
-use Prim.Native.Nat.{◌-◌}
 use native.Mathlib.Omega.{arith}
 use Rattle.fill.proofs.InOrder.{starts, more, ends-all}
 use Rattle.mc_places.specs.PlacesBy.{places_by}

@@ -1,9 +1,7 @@
 -- `mc_places::places::group_bases` meets its contract.
 use mathlib.Core.Path.{refl}
-use Prim.Native.Nat.{◌-◌}
 use native.Mathlib.Omega.{arith}
 use Rattle.fill.proofs.InOrder.{starts, more, ends-all}
-use Rattle.mc_roles.specs.Roles.{base_of}
 use Rattle.mc_places.specs.PlacesBy.{group_bases}
 use Rattle.mc_places.proofs.PlacesBuilt.{base-fits}
 use Rattle.mc_places.proofs.places.group_bases.Goals as goal
@@ -11,8 +9,8 @@ use Rattle.mc_places.proofs.places.group_bases.Goals as goal
 pub loop-k-init : goal.loop-k-init
 loop-k-init c = starts (omega arith)
 
-pub overflow_cast-table : goal.overflow_cast-table
-overflow_cast-table c = search base-fits
+pub overflow_cast-base : goal.overflow_cast-base
+overflow_cast-base c = search base-fits
 
 pub loop-k-preserved : goal.loop-k-preserved
 loop-k-preserved c = more c.loop-k.invariant (omega arith) c.base_of.ensures

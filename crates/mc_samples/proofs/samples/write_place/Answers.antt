@@ -5,12 +5,9 @@ use native.Mathlib.Omega.{arith}
 use lib.ListN.{length-set}
 use Rattle.mc_values.proofs.ValuesLaws.{values-fit, spread_none}
 use Rattle.mc_samples.proofs.Counted.{counted-none, count-most, count_one, count_none, excess-here}
-use Rattle.mc_samples.proofs.SamplesWritten.{index-small, class-found, place-next}
+use Rattle.mc_samples.proofs.SamplesWritten.{place-next}
 use Rattle.mc_samples.proofs.samples.write_place.Goals as goal
 use Rattle.mc_samples.proofs.samples.write_place.Goals.{then-three-ne0, else-three-ne0}
-
-pub class_at-class-requires : goal.class_at-class-requires
-class_at-class-requires c = search index-small
 
 pub loop-gr-init : goal.loop-gr-init
 loop-gr-init c = (omega arith, c.requires.place.2, spread_none _ _ _, counted-none _)
@@ -19,7 +16,7 @@ pub three_values-three-requires : goal.three_values-three-requires
 three_values-three-requires c =
     let p = c.requires in
     let a = c.args in
-    values-fit a.n a.granules.now a.i c.loop-gr.gr p.place.0 p.place_fits (omega arith) _ (class-found _ _ c.class_index.ensures _ c.class_at-class.ensures)
+    values-fit a.n a.granules.now a.i c.loop-gr.gr p.place.0 p.place_fits (omega arith) _ c.class_or_zero-class.ensures
 
 pub bounds-raw-k-in-loop-gr : goal.bounds-raw-k-in-loop-gr
 bounds-raw-k-in-loop-gr c = simp length-set (omega arith)
@@ -32,7 +29,7 @@ overflow_add-excess_codes c = omega (arith, count-most _ _ _ c.loop-gr.invariant
 
 pub loop-gr-preserved : goal.loop-gr-preserved
 loop-gr-preserved c =
-    let found = class-found _ _ c.class_index.ensures _ c.class_at-class.ensures in
+    let found = c.class_or_zero-class.ensures in
     let p = c.loop-gr.invariant in
     let values = c.three_values-three.ensures in
     let excess = excess-here _ c.requires.place.0 _ found c.args.granules.now c.args.i c.loop-gr.gr _ values.1 in (

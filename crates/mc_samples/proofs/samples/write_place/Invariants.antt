@@ -1,6 +1,6 @@
 -- `mc_samples::samples::write_place` meets its contract.
 use mathlib.Core.Path.{◌≡◌}
-use Prim.Native.Nat.{◌-◌, ◌+◌, ◌*◌, ◌/◌, ◌%◌, ◌≤◌}
+use Prim.Native.Nat.{◌+◌, ◌*◌, ◌/◌, ◌%◌, ◌≤◌}
 use lib.ListN.{length}
 use Rattle.mc_values.specs.Values.{raw_by, excess_by, spread}
 use Rattle.mc_samples.proofs.Counted.{counted}
@@ -12,6 +12,3 @@ invariant-loop-gr l =
     × (length l.raw ≡ 3456)
     × (l.raw ≡ spread (raw_by l.n l.granules l.i) (1152 * (l.i % 3) + l.i / 3) (3 * l.gr) l.initial.raw)
     × (l.excess_codes ≡ counted (excess_by l.n l.granules l.i) l.gr)
-
-abbrev pub decreases-loop-gr : goal.decreases-loop-gr
-decreases-loop-gr l = 12 - l.gr

@@ -1,6 +1,5 @@
 -- `mc_values::values::predictor_coefs` meets its contract.
-use mathlib.Core.Path.{refl}
-use native.Mathlib.Omega.{arith}
+use Rattle.std.proofs.Common.{refl, arith}
 use Rattle.fill.proofs.InOrder.{starts, more, ends-all}
 use Rattle.mc_values.proofs.values.predictor_coefs.Goals as goal
 

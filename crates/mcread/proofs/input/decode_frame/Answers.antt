@@ -1,16 +1,21 @@
 -- `mcread::input::decode_frame` meets its contract: the step goes by what the frame call says.
-use Rattle.mcread.specs.Step.{after_frame}
-use Rattle.mcread.proofs.StepLaws.{step-refused, step-accepted, on-before}
+use Rattle.std.specs.Prelude.{◌≡◌, Result, Ok, Err}
+use Rattle.std.specs.Result.{is_ok}
+use Rattle.std.proofs.Common.{refl, ap, ◌∙◌}
+use Rattle.mc_error.specs.declared.McError.{McError}
+use Rattle.mc_state.specs.declared.Accepted.{Accepted}
+use Rattle.mc_state.specs.Answer.{outcome_of}
+use Rattle.mc_state.specs.Frame.{After}
+use Rattle.mcread.specs.Step.{is_accepted, step_of}
 use Rattle.mcread.proofs.input.decode_frame.Goals as goal
 
-pub returns-in-Refused : goal.returns-in-Refused
-unfolding after_frame
-returns-in-Refused g c =
-    let d = c.decode_body-framed in
-    step-refused c.args.n d.result _ _ (on-before _ _ _ _ _ _ d.ensures c.before_frame-before.ensures) _ c.in-Refused.is
+accepted_by : (r : Result Accepted McError) → is_ok r ≡ is_accepted (outcome_of r)
+accepted_by (Ok used) = refl
+accepted_by (Err e) = refl
 
-pub returns-in-Accepted : goal.returns-in-Accepted
-unfolding after_frame
-returns-in-Accepted g c =
-    let d = c.decode_body-framed in
-    step-accepted c.args.n d.result _ _ (on-before _ _ _ _ _ _ d.ensures c.before_frame-before.ensures) _ _ _ c.in-Accepted.is
+pub returns-clause-next : goal.returns-clause-next
+returns-clause-next g c = ap (λ (a : After). a.state) (c.decode-decoded.ensures.frame) ∙ rw c.before_frame.ensures
+
+pub returns-clause-step : goal.returns-clause-step
+returns-clause-step g c =
+    rw (c.is_ok.ensures.value, accepted_by c.decode-decoded.result) (ap (step_of c.args.body.frame.numbers) c.decode-decoded.ensures.frame ∙ rw c.before_frame.ensures)

@@ -1,12 +1,9 @@
 -- `part_tables::pack::write_delays` meets its contract.
 use mathlib.Core.List.{[]}
-use Prim.Native.Nat.{ℕ, ◌-◌, ◌/◌, ◌%◌}
+use Prim.Native.Nat.{ℕ, ◌/◌, ◌%◌}
 use Rattle.fill.proofs.InOrder.{Filling}
 use lib.ListN.{get_or}
 use Rattle.part_tables.proofs.pack.write_delays.Given as goal
 
 abbrev pub invariant-loop-k : goal.invariant-loop-k
 invariant-loop-k l = Filling (λ (j : ℕ). get_or (get_or l.delays (j / 6) []) (j % 6) 0) 48 l.initial.out l.out l.k
-
-abbrev pub decreases-loop-k : goal.decreases-loop-k
-decreases-loop-k l = 48 - l.k

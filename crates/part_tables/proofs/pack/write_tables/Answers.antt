@@ -1,13 +1,19 @@
 -- `part_tables::pack::write_tables` meets its contract.
-use Rattle.part_tables.proofs.PayloadLaws.{writes-accepted, writes-refused}
+use Rattle.std.specs.Prelude.{◌≡◌, length}
+use Rattle.std.proofs.Common.{rules, ◌∙◌}
+use Rattle.part_tables.proofs.PayloadLaws.{entries-all}
 use Rattle.part_tables.proofs.pack.write_tables.Goals as goal
 
-pub returns-in-Accepted : goal.returns-in-Accepted
-returns-in-Accepted c =
-    let a = c.args in
-    writes-accepted a.u.now a.predsi.now a.scfsi.now a.delays.now a.coefs.now a.scalefactors.now a.excesses.now _ _ c.in-Accepted.is _ _ _ _ _ c.write_scfsi.ensures c.write_delays.ensures c.write_coefs.ensures c.write_scalefactors.ensures c.write_excesses.ensures
-
-pub returns-in-Refused : goal.returns-in-Refused
-returns-in-Refused c =
-    let a = c.args in
-    writes-refused a.u.now a.predsi.now a.scfsi.now a.delays.now a.coefs.now a.scalefactors.now a.excesses.now _ c.in-Refused.is
+pub returns-in-Ok : goal.returns-in-Ok
+returns-in-Ok c =
+    let u = c.in-Ok.u in
+    let scfsi : length u.scfsi ≡ 96 = search rules in
+    let scalefactors : length u.scalefactors ≡ 288 = search rules in
+    let excesses : length u.excesses ≡ 1152 = search rules in
+    rw c.in-Ok.is (
+      c.copy_from_slice.ensures.after ∙ entries-all 96 u.scfsi scfsi,
+      c.write_delays.ensures,
+      c.write_coefs.ensures,
+      c.copy_from_slice-in-Ok.ensures.after ∙ entries-all 288 u.scalefactors scalefactors,
+      c.copy_from_slice-in-Ok-2.ensures.after ∙ entries-all 1152 u.excesses excesses,
+    )

@@ -19,16 +19,16 @@ unpack_under-requires c =
     let w = buffers_from a.scfsi.now a.delays.now a.coefs.now a.scalefactors.now a.excesses.now a.raw.now a.lfe.now in
     long l w _ c.lent_fits.ensures (ap not c.if-not-lent_fits.false)
 
-pub returns-in-Refused : goal.returns-in-Refused
-returns-in-Refused c =
+pub returns-in-Err : goal.returns-in-Err
+returns-in-Err c =
     let a = c.args in
     let l = lent_of a.head.now a.head_bits a.payload.now a.payload_bits a.reading a.rate a.base_channels a.lfe_allocation a.nb_steps.now a.base_nb_steps.now in
     let w = buffers_from a.scfsi.now a.delays.now a.coefs.now a.scalefactors.now a.excesses.now a.raw.now a.lfe.now in
-    after-head l w _ c.lent_fits.ensures (ap not c.if-not-lent_fits.false) c.read_head-first.result c.read_head-first.ensures.answer _ c.in-Refused.is _ c.pack_refusal-in-Refused.ensures
+    after-head l w _ c.lent_fits.ensures (ap not c.if-not-lent_fits.false) c.read_head.result c.read_head.ensures _ c.in-Err.is _ c.pack_refusal-in-Err.ensures
 
-pub returns-in-Accepted : goal.returns-in-Accepted
-returns-in-Accepted c =
+pub returns-in-Ok : goal.returns-in-Ok
+returns-in-Ok c =
     let a = c.args in
     let l = lent_of a.head.now a.head_bits a.payload.now a.payload_bits a.reading a.rate a.base_channels a.lfe_allocation a.nb_steps.now a.base_nb_steps.now in
     let w = buffers_from a.scfsi.now a.delays.now a.coefs.now a.scalefactors.now a.excesses.now a.raw.now a.lfe.now in
-    after-payload l w _ c.lent_fits.ensures (ap not c.if-not-lent_fits.false) c.read_head-first.result c.read_head-first.ensures.answer _ c.in-Accepted.is _ c.unpack_under.ensures
+    after-payload l w _ c.lent_fits.ensures (ap not c.if-not-lent_fits.false) c.read_head.result c.read_head.ensures _ c.in-Ok.is _ c.unpack_under.ensures

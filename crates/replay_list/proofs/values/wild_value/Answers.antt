@@ -1,17 +1,8 @@
 -- `replay_list::values::wild_value` meets its contract.
-use Rattle.std.proofs.Common.{ap, ◌∙◌}
-use lib.Ieee.{neg}
+use Rattle.std.proofs.Common.{◌∙◌}
 use Rattle.replay_list.specs.Values.{wild_of}
 use Rattle.replay_list.proofs.ValuesLaws.{above-all, below_all, no_number, wild-other}
 use Rattle.replay_list.proofs.values.wild_value.Goals as goal
-
-pub returns-in-1 : goal.returns-in-1
-unfolding wild_of
-returns-in-1 c = rw c.in-1.is c.fraction.ensures
-
-pub returns-in-2 : goal.returns-in-2
-unfolding wild_of
-returns-in-2 c = rw c.in-2.is (ap neg c.fraction-in-2.ensures)
 
 pub returns-in-3 : goal.returns-in-3
 unfolding wild_of

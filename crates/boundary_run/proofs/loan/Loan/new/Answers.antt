@@ -4,4 +4,4 @@ use Rattle.boundary_run.proofs.loan.Loan.new.Goals as goal
 
 pub returns : goal.returns
 unfolding of_bits round
-returns c = rw c.bytes-head_bytes.ensures
+returns c = rw c.bytes.ensures

@@ -1,17 +1,16 @@
--- `boundary_run::string::Bits::fields` meets its contract: after k turns there are k fields more.
-use Prim.Native.Nat.{ℕ}
-use mathlib.Core.Path.{◌≡◌, refl, ap, ◌∙◌}
-use native.Mathlib.Omega.{arith}
-use Rattle.boundary_run.specs.String.{fields_of}
-use Rattle.boundary_run.proofs.StringLaws.{fields-more}
+-- `boundary_run::string::Bits::fields` meets its contract.
+use Rattle.std.proofs.Common.{◌∙◌, ap, arith, rules}
+use borrow.Author.Tests.{tests}
+use Rattle.std.specs.List.{range_with_len}
+use Rattle.std.proofs.lemmas.List.FromFn.{length-range_with_len}
+use Rattle.std.proofs.lemmas.Iterator.{YieldsList-from_range}
+use Rattle.std.proofs.lemmas.Iterator.Consumers.{fold_from_yields_List}
+use Rattle.boundary_run.specs.String.{field_of, fields_of}
+use Rattle.boundary_run.proofs.StringLaws.{fields-fold}
 use Rattle.boundary_run.proofs.string.Bits.fields.Goals as goal
 
-pub loop-k-init : goal.loop-k-init
-unfolding fields_of
-loop-k-init c = (omega arith, refl)
-
-pub loop-k-preserved : goal.loop-k-preserved
-loop-k-preserved c = (omega arith, fields-more _ _ _ _ _ _ c.loop-k.invariant.1 c.field-out.ensures)
-
 pub returns : goal.returns
-returns c = let e : c.loop-k.k ≡ c.args.times = omega arith in c.loop-k.invariant.1 ∙ ap (λ (t : ℕ). fields_of c.args.self t c.args.n c.args.value) e
+returns c =
+    let a = c.args in
+    fold_from_yields_List _ (λ b x. field_of b a.n a.value) a.self _ c.fold.ensures.ran (YieldsList-from_range 0 a.times a.times (cc) (omega arith)) (λ b x o q m. search (rules, tests))
+    ∙ (fields-fold (range_with_len 0 a.times) a.self a.n a.value ∙ ap (λ k. fields_of a.self k a.n a.value) (length-range_with_len 0 a.times))

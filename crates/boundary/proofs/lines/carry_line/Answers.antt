@@ -1,7 +1,0 @@
--- `boundary::lines::carry_line` meets its contract: of what the callee leaves it returns the state.
-use Rattle.std.proofs.Common.{ap}
-use Rattle.mc_state.specs.Carry.{Carrying}
-use Rattle.boundary.proofs.lines.carry_line.Goals as goal
-
-pub returns : goal.returns
-returns g c = ap (λ (k : Carrying). k.state) c.carry-carried.ensures

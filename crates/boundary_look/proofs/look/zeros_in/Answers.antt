@@ -1,0 +1,14 @@
+-- `boundary_look::look::zeros_in` meets its contract.
+use Rattle.std.proofs.Common.{◌∙◌, rules}
+use borrow.Author.Tests.{tests}
+use Rattle.std.proofs.lemmas.Iterator.{YieldsList-from_range}
+use Rattle.std.proofs.lemmas.Iterator.Search.{all_from_yields_List}
+use Rattle.boundary_look.specs.Look.{zeros_at}
+use Rattle.boundary_look.proofs.LookLaws.{each-range}
+use Rattle.boundary_look.proofs.look.zeros_in.Goals as goal
+
+pub returns : goal.returns
+returns c =
+    let a = c.args in
+    let test = zeros_at a.output.now a.subband in
+    all_from_yields_List test _ _ _ c.all.ensures.ran (YieldsList-from_range 0 36 36 (cc) (cc)) (λ x b q k. search (rules, tests)) ∙ each-range test 36

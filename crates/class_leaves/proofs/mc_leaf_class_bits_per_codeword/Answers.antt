@@ -1,7 +1,0 @@
--- `class_leaves::mc_leaf_class_bits_per_codeword` meets its contract.
-use mathlib.Core.Path.{ap}
-use Rattle.bitalloc.specs.declared.QuantClass.{QuantClass}
-use Rattle.class_leaves.proofs.mc_leaf_class_bits_per_codeword.Goals as goal
-
-pub returns : goal.returns
-returns c = ap (λ (class : QuantClass). class.bits_per_codeword) c.class_or_zero.ensures

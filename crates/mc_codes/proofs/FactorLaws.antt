@@ -1,0 +1,26 @@
+-- A scalefactor index and what follows it.
+use Rattle.std.specs.Prelude.{◌≡◌, refl, Bool, true, false, cond, ℕ, eqb}
+use Rattle.std.proofs.Common.{ap}
+use mathlib.Core.Path.{fun_ext}
+use Rattle.bits.specs.Syntax.{Syntax, Refusal, plain, done, refuse, field, bind}
+use Rattle.bit_reader.specs.Reads.{Goes}
+use Rattle.bit_reader.specs.declared.BitReader.{BitReader}
+use Rattle.bit_reader.proofs.ReadLaws.{goes-on, stops}
+use Rattle.mc_payload.specs.Payload.{factor}
+
+-- two parts
+factor-bind : {A : Type 0} (k : ℕ → Syntax A) → factor k ≡ bind (factor (λ v. done v)) k
+unfolding factor bind
+factor-bind k = ap (field 6) (fun_ext (λ v. by (eqb v 63) v))
+  where
+    by : (t : Bool) (v : ℕ) → cond t (refuse (plain 4)) (k v) ≡ bind (cond t (refuse (plain 4)) (done v)) k
+    by true v = refl
+    by false v = refl
+
+pub factor-on : {B : Type 0} {r r' r'' : BitReader} {v : ℕ} (k : ℕ → Syntax B) {m : Syntax B}
+    → Goes r (factor (λ u. done u)) r' (done v) → Goes r' (k v) r'' m → Goes r (factor k) r'' m
+factor-on k g h = rw (factor-bind k) (goes-on k g h)
+
+pub factor-stops : {B : Type 0} {r r' : BitReader} {x : Refusal} (k : ℕ → Syntax B)
+    → Goes r (factor (λ u. done u)) r' (refuse x) → Goes r (factor k) r' (refuse x)
+factor-stops k g = rw (factor-bind k) (stops k g)

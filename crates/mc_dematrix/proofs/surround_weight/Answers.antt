@@ -1,9 +1,0 @@
--- `mc_dematrix::surround_weight` meets its contract.
-use borrow.Author.Tests.{ne_eqb}
-use Rattle.mc_dematrix.proofs.surround_weight.Goals as goal
-
-pub returns-then-procedure-eq1 : goal.returns-then-procedure-eq1
-returns-then-procedure-eq1 c = rw c.if-procedure-eq1.true
-
-pub returns-else-procedure-eq1 : goal.returns-else-procedure-eq1
-returns-else-procedure-eq1 c = rw (ne_eqb _ 1 c.if-procedure-eq1.false)

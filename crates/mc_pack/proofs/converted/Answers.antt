@@ -1,6 +1,0 @@
--- `mc_pack::converted` meets its contract.
-use Rattle.mc_state.proofs.CarryLaws.{carrying-number}
-use Rattle.mc_pack.proofs.converted.Goals as goal
-
-pub returns : goal.returns
-returns c = search carrying-number

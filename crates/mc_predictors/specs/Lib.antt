@@ -1,2 +1,0 @@
--- The predicted channels as the code returns them.
-pub mod Channels
