@@ -7,7 +7,7 @@ use mc_state::Accepted;
 use program_out::Out;
 use std::fmt;
 
-fn put_accepted(out: &mut Out<impl Print>, number: u64, layout: &[u8], used: Accepted) {
+pub fn put_accepted(out: &mut Out<impl Print>, number: u64, layout: &[u8], used: Accepted) {
     write!(out, "frame {number}: ");
     for channel in layout {
         write!(out, "{} ", name_of(*channel));
@@ -20,7 +20,7 @@ fn put_accepted(out: &mut Out<impl Print>, number: u64, layout: &[u8], used: Acc
 }
 
 // The LFE samples.
-fn put_lfe(out: &mut Out<impl Print>, lfe: &[f64]) {
+pub fn put_lfe(out: &mut Out<impl Print>, lfe: &[f64]) {
     write!(out, "  lfe");
     for x in lfe {
         write!(out, " {}", Decimal(*x));
@@ -42,14 +42,14 @@ fn put_channel(out: &mut Out<impl Print>, channel: u8, values: &[f64]) {
 }
 
 // Each output channel of the layout.
-fn put_channels(out: &mut Out<impl Print>, layout: &[u8], output: &[f64]) {
+pub fn put_channels(out: &mut Out<impl Print>, layout: &[u8], output: &[f64]) {
     for (channel, values) in layout.iter().zip(output.chunks_exact(1152)) {
         put_channel(out, *channel, values);
     }
 }
 
 // The values of an accepted frame; LFE samples only where there are some.
-fn put_values(
+pub fn put_values(
     out: &mut Out<impl Print>,
     lfe_allocation: u8,
     layout: &[u8],
@@ -76,7 +76,7 @@ impl fmt::Display for Refusal {
     }
 }
 
-fn put_refused(out: &mut Out<impl Print>, number: u64, e: McError) {
+pub fn put_refused(out: &mut Out<impl Print>, number: u64, e: McError) {
     writeln!(out, "frame {number}: refused: {}", Refusal(e));
 }
 
