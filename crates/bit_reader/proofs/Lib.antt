@@ -1,3 +1,4 @@
 pub mod Vectors
 pub mod Window
 pub mod ReadLaws
+pub mod TestLaws

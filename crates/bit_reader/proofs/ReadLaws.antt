@@ -8,32 +8,30 @@ use Rattle.std.proofs.Math.Decide.{dec_le}
 use Rattle.bits.specs.Bits.{value_at}
 use Rattle.bits.specs.Syntax.{Syntax, Refusal, plain, done, refuse, field, accepted, refused, run, bind, both, times, and_then}
 use Rattle.bits.proofs.BitsLaws.{value<}
-use Rattle.bits.proofs.SyntaxLaws.{fitted, run_bind}
+use Rattle.bits.proofs.SyntaxLaws.{fitted, run_bind, run_fits}
 use Rattle.mc_error.specs.declared.McError.{McError}
 use Rattle.mc_error.specs.declared.McError.TheVariants.{UnexpectedEnd}
 use Rattle.mc_error.specs.Error.{refusal_of}
-use Rattle.bit_reader.specs.Answer.{read_at}
+use Rattle.bit_reader.specs.Answer.{moved, read_at}
 use Rattle.bit_reader.specs.Reads.{run_at, Goes, ended}
 use Rattle.bit_reader.specs.declared.BitReader.{BitReader}
 
 pub stays : {A : Type 0} {r : BitReader} {m : Syntax A} → Goes r m r m
-stays = record { bytes = refl; limit = refl; same = refl }
+stays = record { string = refl; same = refl }
 
 pub then : {A : Type 0} {r r' r'' : BitReader} {m m' m'' : Syntax A} → Goes r m r' m' → Goes r' m' r'' m'' → Goes r m r'' m''
-then g h = record { bytes = h.bytes ∙ g.bytes; limit = h.limit ∙ g.limit; same = g.same ∙ h.same }
+then g h = record { string = h.string ∙ g.string; same = g.same ∙ h.same }
 
 -- a part that goes on as another, and then what follows
 pub goes-bind : {A B : Type 0} {r r' : BitReader} {m m' : Syntax A} (k : A → Syntax B) → Goes r m r' m' → Goes r (bind m k) r' (bind m' k)
 goes-bind {r = r} {r' = r'} {m = m} {m' = m'} k g =
     record {
-      bytes = g.bytes;
-      limit = g.limit;
+      string = g.string;
       same =
-          run_bind m k r.bytes.now r.limit r.at
-          ∙ ap (λ o. and_then o (λ a u. run (k a) r.bytes.now r.limit u)) g.same
-          ∙ ap (λ x. and_then (run_at r' m') (λ a u. run (k a) x.now r.limit u)) (sym g.bytes)
-          ∙ ap (λ x. and_then (run_at r' m') (λ a u. run (k a) r'.bytes.now x u)) (sym g.limit)
-          ∙ sym (run_bind m' k r'.bytes.now r'.limit r'.at);
+          run_bind m k r.string.bytes.now r.string.bits r.at
+          ∙ ap (λ o. and_then o (λ a u. run (k a) r.string.bytes.now r.string.bits u)) g.same
+          ∙ ap (λ x. and_then (run_at r' m') (λ a u. run (k a) x.bytes.now x.bits u)) (sym g.string)
+          ∙ sym (run_bind m' k r'.string.bytes.now r'.string.bits r'.at);
     }
 
 -- a part that ends with a value, and then what follows
@@ -118,24 +116,24 @@ returned x e h g = let p = err_from_is_err_and x h in rw (p.1, p.2) g
 -- ---- one read
 
 -- a field within the limit
-pub field-fits : {r r' : BitReader} (n v : ℕ) → r'.bytes ≡ r.bytes → r'.limit ≡ r.limit → r'.at ≡ r.at + n
-    → r.at + n ≤ r.limit → v ≡ value_at r.bytes.now r.at n → Goes r (field n (λ u. done u)) r' (done v)
+pub field-fits : {r r' : BitReader} (n v : ℕ) → r'.string ≡ r.string → r'.at ≡ r.at + n
+    → r.at + n ≤ r.string.bits → v ≡ value_at r.string.bytes.now r.at n → Goes r (field n (λ u. done u)) r' (done v)
 unfolding run
-field-fits {r} n v eb el ea h e = record { bytes = eb; limit = el; same = rw (le-leb (r.at + n) r.limit h, ea, e) }
+field-fits {r} n v es ea h e = record { string = es; same = rw (le-leb (r.at + n) r.string.bits h, ea, e) }
 
 -- and one that passes it
-pub field-short : {r r' : BitReader} (n : ℕ) → r'.bytes ≡ r.bytes → r'.limit ≡ r.limit
-    → r.limit < r.at + n → Goes r (field n (λ u. done u)) r' (refuse (plain 1))
+pub field-short : {r r' : BitReader} (n : ℕ) → r'.string ≡ r.string
+    → r.string.bits < r.at + n → Goes r (field n (λ u. done u)) r' (refuse (plain 1))
 unfolding run
-field-short {r} n eb el h = record { bytes = eb; limit = el; same = rw (lt-leb (r.at + n) r.limit h) }
+field-short {r} n es h = record { string = es; same = rw (lt-leb (r.at + n) r.string.bits h) }
 
 -- a value that was read has no more bits than its field
 pub read-bound : {r r' : BitReader} {n v : ℕ} → Goes r (field n (λ u. done u)) r' (done v) → v < 2 ^ n
 unfolding run
 read-bound {r} {r'} {n} {v} g =
-    let f = (fitted n (λ u. done u) r.bytes.now r.limit r.at v r'.at (ended-value g)).rest in
-    let e : value_at r.bytes.now r.at n ≡ v = cc in
-    rw e at (value< r.bytes.now r.at n)
+    let f = (fitted n (λ u. done u) r.string.bytes.now r.string.bits r.at v r'.at (ended-value g)).rest in
+    let e : value_at r.string.bytes.now r.at n ≡ v = cc in
+    rw e at (value< r.string.bytes.now r.at n)
 
 -- what a value that was read says: the field ends within the limit, and is the value
 pub record Found (b : List ℕ) (l p n v : ℕ) : Type 0 where
@@ -170,3 +168,50 @@ short b l p n e f = go (dec_le (p + n) l)
     go (no h) =
         let g : Err e ≡ Err UnexpectedEnd = rw (lt-leb (p + n) l (omega arith)) at f in
         record { past = omega arith; error = cc }
+
+-- ---- where reads leave a reader
+
+module _ (l n p : ℕ) where
+  pub moved-fits : (k : ℕ) → p + n ≤ l → moved l n (suc k) p ≡ moved l n k (p + n)
+  unfolding moved
+  moved-fits k h = rw (le-leb (p + n) l h) refl
+
+  pub moved-once : p + n ≤ l → moved l n 1 p ≡ p + n
+  unfolding moved
+  moved-once h = moved-fits 0 h
+
+  pub moved-short : (k : ℕ) → l < p + n → moved l n (suc k) p ≡ p
+  unfolding moved
+  moved-short k h = rw (lt-leb (p + n) l h) refl
+
+-- a field that was read is within the limit, and one that was refused passes it
+field-within : {r r' : BitReader} {n v : ℕ} → Goes r (field n (λ u. done u)) r' (done v) → r.at + n ≤ r.string.bits
+field-within {r} {r'} {n} {v} g = (fitted n (λ u. done u) r.string.bytes.now r.string.bits r.at v r'.at (ended-value g)).fits
+
+field-past : {r r' : BitReader} {n : ℕ} {x : Refusal} → Goes r (field n (λ u. done u)) r' (refuse x) → r.string.bits < r.at + n
+unfolding run
+field-past {r} {r'} {n} {x} g = go (dec_le (r.at + n) r.string.bits)
+  where
+    go : Dec (r.at + n ≤ r.string.bits) → r.string.bits < r.at + n
+    go (no h) = omega arith
+    go (yes h) =
+        let e : run (field n (λ u. done u)) r.string.bytes.now r.string.bits r.at ≡ accepted (value_at r.string.bytes.now r.at n) (r.at + n) =
+        run_fits n (λ u. done u) r.string.bytes.now r.string.bits r.at h in
+        let f = ended-refusal g in
+        let z : ◌≡◌ {A = ℕ} 0 1 = cc in
+        absurd (omega arith)
+
+-- a read that answers, and k more
+pub moved-on : {r r' r'' : BitReader} {n v : ℕ} (k : ℕ) → Goes r (field n (λ u. done u)) r' (done v)
+    → r' ≡ record r { at = moved r.string.bits n 1 r.at } → r'' ≡ record r' { at = moved r'.string.bits n k r'.at }
+    → r'' ≡ record r { at = moved r.string.bits n (suc k) r.at }
+moved-on {r} {n = n} k g e e' =
+    let h = field-within g in
+    rw (moved-fits r.string.bits n r.at k h) (rw (e, moved-once r.string.bits n r.at h) at e')
+
+-- a read that is refused, and no more
+pub moved-stops : {r r' : BitReader} {n : ℕ} (k : ℕ) {x : Refusal} → Goes r (field n (λ u. done u)) r' (refuse x)
+    → r' ≡ record r { at = moved r.string.bits n 1 r.at } → r' ≡ record r { at = moved r.string.bits n (suc k) r.at }
+moved-stops {r} {n = n} k g e =
+    let h = field-past g in
+    e ∙ rw (moved-short r.string.bits n r.at 0 h, moved-short r.string.bits n r.at k h) refl

@@ -4,7 +4,7 @@ use mathlib.Core.List.{[], ◌∷◌}
 use Prim.Native.Nat.{ℕ}
 use Rattle.bits.specs.Bits.{bit_at, value_at}
 use Rattle.bits.specs.Syntax.{plain, Syntax, done, field, accepted, refused, run}
-use Rattle.bit_reader.specs.Answer.{read_at}
+use Rattle.bit_reader.specs.Answer.{moved, read_at}
 use Rattle.std.specs.Prelude.{Ok, Err}
 use Rattle.mc_error.specs.declared.McError.TheVariants.{UnexpectedEnd}
 
@@ -40,6 +40,15 @@ short = refl
 empty : read_at (0xab ∷ []) 8 8 0 ≡ Ok 0
 unfolding read_at value_at
 empty = refl
+
+-- three fields of four bits, all within the limit, and the third past it
+three : moved 12 4 3 0 ≡ 12
+unfolding moved
+three = refl
+
+two : moved 11 4 3 0 ≡ 8
+unfolding moved
+two = refl
 
 -- two fields, and the same cut by one bit
 abbrev halves : Syntax (ℕ × ℕ)

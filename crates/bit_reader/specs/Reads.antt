@@ -7,12 +7,11 @@ use Rattle.bit_reader.specs.declared.BitReader.{BitReader}
 
 -- what a program finds from a reader's position on
 abbrev pub run_at : {A : Type 0} → BitReader → Syntax A → Outcome A
-run_at r m = run m r.bytes.now r.limit r.at
+run_at r m = run m r.string.bytes.now r.string.bits r.at
 
 -- from the reader r the program m goes on at the reader r' as the program m'
 pub record Goes {A : Type 0} (r : BitReader) (m : Syntax A) (r' : BitReader) (m' : Syntax A) : Type 0 where
-  pub bytes : r'.bytes ≡ r.bytes
-  pub limit : r'.limit ≡ r.limit
+  pub string : r'.string ≡ r.string
   pub same : run_at r m ≡ run_at r' m'
 
 -- a program that ends as a result says

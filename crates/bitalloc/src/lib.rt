@@ -181,7 +181,7 @@ pub fn class_of_quantization(nb_steps: u32) -> Option<QuantClass>
     class_index(nb_steps).map(class_at)
 }
 
-// The class that has this number of steps, or a row of zeros.
+// The class that has this number of steps, or a row of zeros, since the functions for C answer 0 there and a place of no class has codes of no bits.
 pub fn class_or_zero(nb_steps: u32) -> QuantClass
     ensures { result ≡ class_of nb_steps }
 {

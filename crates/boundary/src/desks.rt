@@ -6,7 +6,7 @@ use crate::frames::{three_one, three_two};
 use crate::lines::{carry_line, line};
 use crate::print::say_converted;
 use boundary_run::Loan;
-use mc_state::McDecodeState;
+use mc_state::{McDecodeState, convert_mc_state};
 use program_out::Out;
 
 // A frame's line from a desk, and the state after it; the base begins with this value.
@@ -92,11 +92,12 @@ fn convert_line(
         layout,
         accepted,
     } = older;
-    let converted = McDecodeState::convert(history, layout_len, layout, accepted);
+    let mut after = state;
+    let converted = convert_mc_state(&mut after, history, layout_len, layout, accepted);
     write!(out, "{name}");
-    say_converted(out, history, converted);
+    say_converted(out, history, converted, state, after);
     writeln!(out);
-    converted.unwrap_or(state)
+    after
 }
 
 // Older states that are refused.

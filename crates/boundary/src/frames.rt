@@ -15,6 +15,7 @@ fn empty(head: Bits, left: f64) -> Loan
     }
 }
 
+// 3/2 here, 3/1 and 2/2 below: each is named, as the lines name it, where a caller would have five numbers of a head.
 pub fn three_two(left: f64) -> Loan
     ensures { result ≡ three_two left }
 {

@@ -93,7 +93,7 @@ pub fn mono_lines(out: &mut Out<impl Print>) {
     surround_line(out);
 }
 
-// Each refusal, in a state of 3/2 whose history is of another base.
+// Refusals 1 to 8, in a state of 3/2 whose history is of another base.
 pub fn refusal_lines(out: &mut Out<impl Print>) {
     let state = line(out, "3/2", three_two(0.125), McDecodeState::new());
     let empty = Loan {

@@ -1,4 +1,4 @@
-// Writes lines.
+// Writes lines. The functions `say_..` write a line's parts to what is lent to print: a type with a `Display` for each would hold the parameters that the function has.
 ghost use Rattle.std.specs.Prelude.{◌≡◌};
 ghost use Rattle.boundary_look.specs.Look.{same_values};
 ghost use Rattle.boundary_run.specs.Run.{same_counts, stored_by};
@@ -40,6 +40,8 @@ fn stored(loan: Loan, state: McDecodeState) -> bool
     is_stored(&state.pred_hist, &left, &right)
 }
 
+// Whether the history is the same. It and the counts are compared apart, as lines say them apart. The states before and after are two
+// parameters here and below: what is compared is a state with another, and a type of both would be made for these calls alone.
 fn same_history(before: McDecodeState, after: McDecodeState) -> bool
     ensures { result ≡ same_values before.pred_hist after.pred_hist }
 {
@@ -50,9 +52,7 @@ fn same_history(before: McDecodeState, after: McDecodeState) -> bool
 fn same_counts(before: McDecodeState, after: McDecodeState) -> bool
     ensures { result ≡ same_counts before after }
 {
-    before.layout_len == after.layout_len
-        && before.layout == after.layout
-        && before.accepted == after.accepted
+    before.held() == after.held() && before.accepted == after.accepted
 }
 
 // What became of the state.
@@ -106,14 +106,16 @@ pub fn say_carried(
     write!(out, "; history {kept}, {}", Counts(&after));
 }
 
-// What conversion answered, and what became of the older state's history, without the line's end; a refusal gives no state in place of the one before.
+// What conversion answered, and what became of the older state's history or, after a refusal, of the state before, without the line's end.
 pub fn say_converted(
     out: &mut Out<impl Print>,
     history: &[f64],
-    converted: Result<McDecodeState, McError>,
+    converted: Result<(), McError>,
+    before: McDecodeState,
+    after: McDecodeState,
 ) {
     match converted {
-        Ok(after) => {
+        Ok(()) => {
             let kept = if same_values(&after.pred_hist, history) {
                 "kept"
             } else {
@@ -121,6 +123,11 @@ pub fn say_converted(
             };
             write!(out, ": converted; history {kept}, {}", Counts(&after));
         }
-        Err(e) => write!(out, ": refusal {}; state as it was", e.number()),
+        Err(e) => {
+            write!(out, ": refusal {}", e.number());
+            if same_history(before, after) && same_counts(before, after) {
+                write!(out, "; state as it was");
+            }
+        }
     }
 }

@@ -26,7 +26,8 @@ pub fn same_values(xs: &[f64], ys: &[f64]) -> bool
     xs.len() == ys.len() && xs.iter().zip(ys).all(|(x, y)| same(*x, *y))
 }
 
-// Whether the history holds the last nine slots of a base, oldest first.
+// Whether the history holds the last nine slots of a base, oldest first. A chain over a number here and below: it makes the places in both lists,
+// whose order is not the same.
 pub fn is_stored(history: &[f64; 576], left: &[f64; 1152], right: &[f64; 1152]) -> bool
     ensures { result ≡ is_stored history.now left.now right.now }
 {
@@ -50,15 +51,8 @@ pub fn third_is_silent(output: &[f64; 5760]) -> bool
     all_are(&output[2304..3456], 0.0)
 }
 
-// Whether the second channel of the output is +0 in all slots of a subband.
-fn zeros_in(output: &[f64; 5760], subband: usize) -> bool
-    requires { subband < 32 }
-    ensures { result ≡ each (zeros_at output.now subband) 36 }
-{
-    (0..36usize).all(|slot| same(output[1152 + (32 * slot + subband)], 0.0))
-}
-
-// Whether it is the base there.
+// Whether the second channel of the output is the base in all slots of a subband. A chain over a number, which is a slot of two lists.
+// The base stands by itself, since zeros may stand for it.
 fn bases_in(output: &[f64; 5760], base: &[f64; 1152], subband: usize) -> bool
     requires { subband < 32 }
     ensures { result ≡ each (bases_at output.now base.now subband) 36 }
@@ -77,12 +71,12 @@ pub enum Held {
     Other,
 }
 
-#[tactic(auto, unfolding(crate::specs::Look::held_of))]
+#[tactic(auto, using(crate::proofs::LookLaws::silent_base), unfolding(crate::specs::Look::held_of))]
 fn held_in(output: &[f64; 5760], base: &[f64; 1152], subband: usize) -> Held
     requires { subband < 32 }
     ensures { result ≡ held_of output.now base.now subband }
 {
-    if zeros_in(output, subband) {
+    if bases_in(output, &[0.0; 1152], subband) {
         Held::Zero
     } else if bases_in(output, base, subband) {
         Held::Base
@@ -91,7 +85,7 @@ fn held_in(output: &[f64; 5760], base: &[f64; 1152], subband: usize) -> Held
     }
 }
 
-// The first subband from `first` on whose second channel does not hold that; if there is none, 32, or `first` where that is more. Nothing holds None.
+// The first subband from `first` on whose second channel does not hold that; if there is none, 32, or `first` where that is more. No subband holds `None`.
 pub fn holds_until(
     output: &[f64; 5760],
     base: &[f64; 1152],

@@ -1,3 +1,4 @@
 pub mod LoanLaws
 pub mod RunLaws
 pub mod StringLaws
+pub mod ToldLaws

@@ -4,13 +4,14 @@ use Rattle.std.proofs.Common.{refl, sym, ap, ◌∙◌, arith, eq-eqb, ne_eqb}
 use lib.Pointwise.{pointwise}
 use Rattle.fill.specs.Each.{each}
 use Rattle.boundary_look.proofs.LookLaws.{each-first}
+use Rattle.mc_base.specs.Base.{second_length}
 use Rattle.mc_state.specs.Answer.{after_of}
 use Rattle.mc_state.specs.Frame.{Buffers, After, frame_of}
 use Rattle.mc_state.specs.declared.Framed.{Framed}
 use Rattle.mc_state.specs.declared.McDecodeState.{McDecodeState}
 use Rattle.boundary_run.specs.Loan.{ramp_of}
 use Rattle.boundary_look.specs.Look.{all_are, is_stored}
-use Rattle.boundary_run.specs.Run.{one64, lent_by, second_length, ones, after_run, stored_by, same_counts, FoundIs}
+use Rattle.boundary_run.specs.Run.{one64, lent_by, ones, after_run, stored_by, same_counts, FoundIs}
 use Rattle.boundary_run.specs.declared.loan.Loan.{Loan}
 
 pub is-run : (loan : Loan) (state : McDecodeState) (left right : List Float) (n m : ℕ) (a : After) → left ≡ ramp_of loan.left → right ≡ ramp_of loan.right → n ≡ second_length loan.base_channels 1152 → m ≡ second_length loan.base_channels 32

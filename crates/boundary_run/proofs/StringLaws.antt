@@ -1,7 +1,8 @@
--- One turn of each loop of src/string.rt.
-use Rattle.std.specs.Prelude.{◌≡◌, List, [], ◌∷◌, ℕ, zero, suc, length, take, drop, ◌+◌, ◌-◌, ◌*◌, ◌/◌, ◌%◌, ◌≤◌, ◌<◌, set}
+-- One turn of each loop over a string's places, and both cases of a field.
+use Rattle.std.specs.Prelude.{◌≡◌, List, [], ◌∷◌, ℕ, zero, suc, length, take, drop, ◌+◌, ◌-◌, ◌*◌, ◌/◌, ◌%◌, ◌≤◌, ◌<◌, get_or, set}
 use Rattle.std.specs.List.{fold}
-use Rattle.std.proofs.Common.{refl, sym, ap, ap₂, ◌∙◌, add-one, arith, length-drop, get_or-drop}
+use Rattle.std.proofs.Common.{refl, sym, ap, ap₂, ◌∙◌, add-one, arith, le-leb, length-drop, get_or-drop}
+use Rattle.std.proofs.lemmas.Bool.{lt-leb}
 use Rattle.std.proofs.lemmas.List.Sums.{fold_more}
 use Rattle.boundary_run.specs.String.{put_bits, field_of, fields_of, byte_of}
 use Rattle.boundary_run.specs.declared.string.Bits.{Bits}
@@ -35,3 +36,21 @@ byte-fold bits first (suc n) h =
     ap (λ (k : ℕ). fold (λ v b. (2 * v + b) % 256) 0 (take k (drop first bits))) (sym (add-one n))
     ∙ (fold_more (λ v b. (2 * v + b) % 256) 0 (drop first bits) n 0 l
     ∙ ap₂ (λ v b. (2 * v + b) % 256) (byte-fold bits first n (omega arith)) (get_or-drop first bits n 0))
+
+-- ---- one field, one field more and one place more
+
+pub field-passes : (b : Bits) (n v : ℕ) → 232 < b.at + n → b ≡ field_of b n v
+unfolding field_of
+field-passes b n v h = simp (lt-leb _ _ h)
+
+pub field_fits : (b : Bits) (n v : ℕ) (out : List ℕ) → b.at + n ≤ 232 → out ≡ put_bits b.bits b.at n v → record { bits = out; at = b.at + n } ≡ field_of b n v
+unfolding field_of
+field_fits b n v out h e = simp (le-leb _ _ h) (ap (λ (l : List ℕ). record { bits = l; at = b.at + n }) e)
+
+pub fields-more : (b out : Bits) (k n v : ℕ) (next : Bits) → out ≡ fields_of b k n v → next ≡ field_of out n v → next ≡ fields_of b (k + 1) n v
+unfolding fields_of
+fields-more b out k n v next e q = rw (add-one k) (q ∙ ap (λ (o : Bits). field_of o n v) e)
+
+pub byte_more : (bits : List ℕ) (first k value place : ℕ) → value ≡ byte_of bits first k → place ≡ get_or bits (first + k) 0 → (2 * value + place) % 256 ≡ byte_of bits first (k + 1)
+unfolding byte_of
+byte_more bits first k value place e q = rw (add-one k, e, q)

@@ -3,7 +3,7 @@ use Rattle.std.specs.Prelude.{◌≡◌, Bool, ◌&&◌, cond, List, ℕ, ◌+�
 use Rattle.std.specs.Float.{binary64}
 use Rattle.std.specs.Float.Ieee.{of_bits}
 use Rattle.fill.specs.Each.{each}
-use Rattle.mc_base.specs.Base.{base_from}
+use Rattle.mc_base.specs.Base.{base_from, second_length}
 use Rattle.mc_state.specs.Answer.{lent_of, buffers_from, outcome_of}
 use Rattle.mc_state.specs.Desk.{tally_at}
 use Rattle.mc_state.specs.Frame.{Lent, Buffers, After, frame_of}
@@ -20,10 +20,6 @@ one64 = of_bits binary64 0x3FF0000000000000
 abbrev pub lent_by : Loan → List Float → List Float → List ℕ → Lent
 lent_by loan left right base_steps =
     lent_of loan.head loan.head_bits loan.payload loan.payload_bits loan.reading loan.desk loan.rate loan.base_channels (base_from left right left right) base_steps loan.lfe_allocation loan.steps
-
--- how many of n a second base channel has
-abbrev pub second_length : ℕ → ℕ → ℕ
-second_length base_channels n = cond (eqb base_channels 1) 0 n
 
 -- buffers that hold 1 throughout
 abbrev pub ones : Buffers

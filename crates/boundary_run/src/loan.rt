@@ -5,7 +5,7 @@ ghost use Rattle.boundary_run.specs.Loan.{loan_of, ramp_of, step_at, byte_from, 
 
 use crate::string::{Bits, bytes};
 
-// As the frame call is lent it, and so with numbers that may be wrong: bytes with a bit count beside them, any reading, desk and rate.
+// It owns its bytes, which a `BitString` would borrow; bit counts, reading, desk and rate may be wrong.
 #[derive(Clone, Copy)]
 pub struct Loan {
     pub head: [u8; 29],
@@ -46,7 +46,7 @@ impl Loan {
     }
 }
 
-// 1,152 base values, each 1/1024 above the one before.
+// 1,152 base values, each 1/1024 above the one before. By `as`: `f64` has no `From<usize>`.
 pub fn ramp(start: f64) -> [f64; 1152]
     ensures { result ≡ ramp_of start }
 {
@@ -71,6 +71,7 @@ pub fn first_steps(channels: usize, subbands: usize, count: u32) -> [u32; 96]
     std::array::from_fn(|k| step_at(channels, subbands, count, k))
 }
 
+// As `u8_at` of encoding, which would be one crate more below this one for one line.
 #[tactic(auto, unfolding(crate::specs::Loan::byte_from))]
 fn byte_from(start: &[u8; 29], k: usize) -> u8
     ensures { result ≡ byte_from start.now k }

@@ -1,11 +1,11 @@
 // One frame call, and what it left.
 ghost use Rattle.std.specs.Prelude.{◌≡◌, ◌≤◌};
 ghost use Rattle.mc_state.specs.Answer.{lent_now};
-ghost use Rattle.boundary_run.specs.Run.{lent_by, second_length, after_run, FoundIs};
+ghost use Rattle.boundary_run.specs.Run.{lent_by, after_run, FoundIs};
 
 use crate::loan::{Loan, ramp};
 use boundary_look::all_are;
-use mc_base::{Base, Stereo};
+use mc_base::{Base, Stereo, second_length};
 use mc_decode::frame_by_value;
 use mc_error::McError;
 use mc_state::{Accepted, BitString, Buffers, Lent, McDecodeState};
@@ -17,14 +17,6 @@ pub struct Found {
     // whether the four buffers are as they were before the call
     pub kept: bool,
     pub output: [f64; 5760],
-}
-
-// Values and step counts of a second base channel.
-fn second_length(base_channels: u8, n: usize) -> usize
-    ensures value { result ≡ second_length base_channels n }
-    ensures upper_bound { result ≤ n }
-{
-    if base_channels == 1 { 0 } else { n }
 }
 
 // What is lent of a loan, on these base channels, raw and scaled.
@@ -40,17 +32,19 @@ fn lent<'a>(loan: &'a Loan, base: Stereo<&'a [f64]>, base_nb_steps: &'a [u32]) -
             bytes: &loan.payload,
             bits: loan.payload_bits,
         },
-        reading: loan.reading,
+        loan: mc_state::Loan {
+            reading: loan.reading,
+            rate: loan.rate,
+            base_channels: loan.base_channels,
+            lfe_allocation: loan.lfe_allocation,
+            nb_steps: &loan.steps,
+            base_nb_steps,
+        },
         desk: loan.desk,
-        rate: loan.rate,
-        base_channels: loan.base_channels,
         base: Base {
             raw: base,
             scaled: base,
         },
-        base_nb_steps,
-        lfe_allocation: loan.lfe_allocation,
-        nb_steps: &loan.steps,
     }
 }
 

@@ -17,7 +17,7 @@ fn put(bits: [u8; 232], at: usize, n: usize, value: u32) -> [u8; 232]
 {
     let mut out = bits;
     let mut rest = value;
-    // from the last place to the first, since the lowest bit is at hand first
+    // From the last place to the first, as `rest` is halved. By `iter_mut().rev()`, which was tried, the proof did not close: what the loop leaves is not known there.
     for k in (0..n).rev() {
         out[at + k] = (rest % 2) as u8;
         rest /= 2;
@@ -26,6 +26,8 @@ fn put(bits: [u8; 232], at: usize, n: usize, value: u32) -> [u8; 232]
 }
 
 impl Bits {
+    // Nothing written. A derived `Default` promises of its array each element alone, where this is the definition as it stands,
+    // and would need a lemma for what stands here in one line.
     pub fn new() -> Bits
         ensures { result ≡ nothing }
     {

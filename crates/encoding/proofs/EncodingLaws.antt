@@ -1,16 +1,17 @@
 -- Laws of numbers as bytes and of the hash, one step each.
-use Rattle.std.specs.Prelude.{◌≡◌, refl, Bool, true, false, not, List, [], ◌∷◌, fold, T, Float, length, drop, get_or}
+use Rattle.std.specs.Prelude.{◌≡◌, min, refl, Bool, true, false, not, List, [], ◌∷◌, fold, T, Float, length, drop, get_or}
 use Rattle.std.proofs.Common.{sym, ap, ◌∙◌, add-one, lt-ltb, le-ltb, eq-eqb, drop_of_length-le, pow_mono, drop-cons, Fits}
 use Rattle.std.specs.Bool.{beq}
-use Prim.Native.Nat.{ℕ, suc, ◌+◌, ◌-◌, ◌*◌, ◌/◌, ◌%◌, ◌^◌, ◌≤◌, ◌<◌}
+use Prim.Native.Nat.{ℕ, zero, suc, ◌+◌, ◌-◌, ◌*◌, ◌/◌, ◌%◌, ◌^◌, ◌≤◌, ◌<◌}
 use Rattle.std.proofs.Math.Nat.{mod-add-mod, add-mul-mod_self_right}
 use native.Mathlib.Omega.{arith}
 use Rattle.std.specs.Float.{nan, inf, fin, binary64}
 use Rattle.std.specs.Float.Ieee.{is_nan, eq, ne, up, down, to_bits, of_bits, nan_bits, div}
 use Rattle.std.specs.Float.Ieee.Bits.{nan_bits_is, nan_bits_above}
 use Rattle.std.proofs.Math.Pow.{pow-add}
-use Rattle.std.specs.Int.{w8, w64, to_le_bytes}
-use Rattle.encoding.specs.Encoding.{lowest_first, number_at, hash_byte, hash_bytes, hash_number, hash_floats}
+use Rattle.std.specs.Int.{w8, w64, to_le_bytes, from_le_bytes}
+use Rattle.fill.specs.Tab.{tab}
+use Rattle.encoding.specs.Encoding.{byte_of, lowest_first, number_at, hash_byte, hash_bytes, hash_number, hash_floats}
 
 -- a loop that reads n bytes from the last to the first has read those from k on
 pub record ReadFrom (bytes : List ℕ) (at n k value : ℕ) : Type 0 where
@@ -134,3 +135,27 @@ nan_pattern bits h = is-nan (of_bits binary64 bits) (sym (nan_bits_is binary64 b
 
 pub no-nan-pattern : (bits : ℕ) → bits % 9223372036854775808 ≤ 9218868437227405312 → T (not (nan_bits binary64 bits))
 no-nan-pattern bits h = rw (nan_bits_above binary64 bits ∙ le-ltb 9218868437227405312 (bits % 9223372036854775808) h) tt
+
+eight : (f : ℕ → ℕ) → from_le_bytes w64 (tab f 8) ≡ f 0 + f 1 * 256 + f 2 * 65536 + f 3 * 16777216 + f 4 * 4294967296 + f 5 * 1099511627776 + f 6 * 281474976710656 + f 7 * 72057594037927936
+unfolding tab
+eight f = refl
+
+-- eight bytes, those past the n counting 0
+module _ (bytes : List ℕ) (at : ℕ) where
+  inside : (n k place : ℕ) → k < n → at + k ≡ place → byte_of bytes at n k ≡ get_or bytes place 0
+  inside n k place h e = rw (lt-ltb k n h, e)
+
+  outside : (n k : ℕ) → n ≤ k → byte_of bytes at n k ≡ 0
+  outside n k h = rw (le-ltb k n h)
+
+  pub eight-bytes : (n : ℕ) → from_le_bytes w64 (tab (byte_of bytes at n) 8) ≡ number_at bytes at n
+  unfolding lowest_first
+  eight-bytes zero = eight (byte_of bytes at zero) ∙ omega (arith, outside zero 0 (omega arith), outside zero 1 (omega arith), outside zero 2 (omega arith), outside zero 3 (omega arith), outside zero 4 (omega arith), outside zero 5 (omega arith), outside zero 6 (omega arith), outside zero 7 (omega arith))
+  eight-bytes (suc zero) = eight (byte_of bytes at (suc zero)) ∙ omega (arith, inside (suc zero) 0 at (omega arith) (omega arith), outside (suc zero) 1 (omega arith), outside (suc zero) 2 (omega arith), outside (suc zero) 3 (omega arith), outside (suc zero) 4 (omega arith), outside (suc zero) 5 (omega arith), outside (suc zero) 6 (omega arith), outside (suc zero) 7 (omega arith))
+  eight-bytes (suc (suc zero)) = eight (byte_of bytes at (suc (suc zero))) ∙ omega (arith, inside (suc (suc zero)) 0 at (omega arith) (omega arith), inside (suc (suc zero)) 1 (suc at) (omega arith) (omega arith), outside (suc (suc zero)) 2 (omega arith), outside (suc (suc zero)) 3 (omega arith), outside (suc (suc zero)) 4 (omega arith), outside (suc (suc zero)) 5 (omega arith), outside (suc (suc zero)) 6 (omega arith), outside (suc (suc zero)) 7 (omega arith))
+  eight-bytes (suc (suc (suc zero))) = eight (byte_of bytes at (suc (suc (suc zero)))) ∙ omega (arith, inside (suc (suc (suc zero))) 0 at (omega arith) (omega arith), inside (suc (suc (suc zero))) 1 (suc at) (omega arith) (omega arith), inside (suc (suc (suc zero))) 2 (suc (suc at)) (omega arith) (omega arith), outside (suc (suc (suc zero))) 3 (omega arith), outside (suc (suc (suc zero))) 4 (omega arith), outside (suc (suc (suc zero))) 5 (omega arith), outside (suc (suc (suc zero))) 6 (omega arith), outside (suc (suc (suc zero))) 7 (omega arith))
+  eight-bytes (suc (suc (suc (suc zero)))) = eight (byte_of bytes at (suc (suc (suc (suc zero))))) ∙ omega (arith, inside (suc (suc (suc (suc zero)))) 0 at (omega arith) (omega arith), inside (suc (suc (suc (suc zero)))) 1 (suc at) (omega arith) (omega arith), inside (suc (suc (suc (suc zero)))) 2 (suc (suc at)) (omega arith) (omega arith), inside (suc (suc (suc (suc zero)))) 3 (suc (suc (suc at))) (omega arith) (omega arith), outside (suc (suc (suc (suc zero)))) 4 (omega arith), outside (suc (suc (suc (suc zero)))) 5 (omega arith), outside (suc (suc (suc (suc zero)))) 6 (omega arith), outside (suc (suc (suc (suc zero)))) 7 (omega arith))
+  eight-bytes (suc (suc (suc (suc (suc zero))))) = eight (byte_of bytes at (suc (suc (suc (suc (suc zero)))))) ∙ omega (arith, inside (suc (suc (suc (suc (suc zero))))) 0 at (omega arith) (omega arith), inside (suc (suc (suc (suc (suc zero))))) 1 (suc at) (omega arith) (omega arith), inside (suc (suc (suc (suc (suc zero))))) 2 (suc (suc at)) (omega arith) (omega arith), inside (suc (suc (suc (suc (suc zero))))) 3 (suc (suc (suc at))) (omega arith) (omega arith), inside (suc (suc (suc (suc (suc zero))))) 4 (suc (suc (suc (suc at)))) (omega arith) (omega arith), outside (suc (suc (suc (suc (suc zero))))) 5 (omega arith), outside (suc (suc (suc (suc (suc zero))))) 6 (omega arith), outside (suc (suc (suc (suc (suc zero))))) 7 (omega arith))
+  eight-bytes (suc (suc (suc (suc (suc (suc zero)))))) = eight (byte_of bytes at (suc (suc (suc (suc (suc (suc zero))))))) ∙ omega (arith, inside (suc (suc (suc (suc (suc (suc zero)))))) 0 at (omega arith) (omega arith), inside (suc (suc (suc (suc (suc (suc zero)))))) 1 (suc at) (omega arith) (omega arith), inside (suc (suc (suc (suc (suc (suc zero)))))) 2 (suc (suc at)) (omega arith) (omega arith), inside (suc (suc (suc (suc (suc (suc zero)))))) 3 (suc (suc (suc at))) (omega arith) (omega arith), inside (suc (suc (suc (suc (suc (suc zero)))))) 4 (suc (suc (suc (suc at)))) (omega arith) (omega arith), inside (suc (suc (suc (suc (suc (suc zero)))))) 5 (suc (suc (suc (suc (suc at))))) (omega arith) (omega arith), outside (suc (suc (suc (suc (suc (suc zero)))))) 6 (omega arith), outside (suc (suc (suc (suc (suc (suc zero)))))) 7 (omega arith))
+  eight-bytes (suc (suc (suc (suc (suc (suc (suc zero))))))) = eight (byte_of bytes at (suc (suc (suc (suc (suc (suc (suc zero)))))))) ∙ omega (arith, inside (suc (suc (suc (suc (suc (suc (suc zero))))))) 0 at (omega arith) (omega arith), inside (suc (suc (suc (suc (suc (suc (suc zero))))))) 1 (suc at) (omega arith) (omega arith), inside (suc (suc (suc (suc (suc (suc (suc zero))))))) 2 (suc (suc at)) (omega arith) (omega arith), inside (suc (suc (suc (suc (suc (suc (suc zero))))))) 3 (suc (suc (suc at))) (omega arith) (omega arith), inside (suc (suc (suc (suc (suc (suc (suc zero))))))) 4 (suc (suc (suc (suc at)))) (omega arith) (omega arith), inside (suc (suc (suc (suc (suc (suc (suc zero))))))) 5 (suc (suc (suc (suc (suc at))))) (omega arith) (omega arith), inside (suc (suc (suc (suc (suc (suc (suc zero))))))) 6 (suc (suc (suc (suc (suc (suc at)))))) (omega arith) (omega arith), outside (suc (suc (suc (suc (suc (suc (suc zero))))))) 7 (omega arith))
+  eight-bytes (suc (suc (suc (suc (suc (suc (suc (suc n)))))))) = let few : min (suc (suc (suc (suc (suc (suc (suc (suc n)))))))) 8 ≡ 8 = omega arith in rw few (eight (byte_of bytes at (suc (suc (suc (suc (suc (suc (suc (suc n))))))))) ∙ omega (arith, inside (suc (suc (suc (suc (suc (suc (suc (suc n)))))))) 0 at (omega arith) (omega arith), inside (suc (suc (suc (suc (suc (suc (suc (suc n)))))))) 1 (suc at) (omega arith) (omega arith), inside (suc (suc (suc (suc (suc (suc (suc (suc n)))))))) 2 (suc (suc at)) (omega arith) (omega arith), inside (suc (suc (suc (suc (suc (suc (suc (suc n)))))))) 3 (suc (suc (suc at))) (omega arith) (omega arith), inside (suc (suc (suc (suc (suc (suc (suc (suc n)))))))) 4 (suc (suc (suc (suc at)))) (omega arith) (omega arith), inside (suc (suc (suc (suc (suc (suc (suc (suc n)))))))) 5 (suc (suc (suc (suc (suc at))))) (omega arith) (omega arith), inside (suc (suc (suc (suc (suc (suc (suc (suc n)))))))) 6 (suc (suc (suc (suc (suc (suc at)))))) (omega arith) (omega arith), inside (suc (suc (suc (suc (suc (suc (suc (suc n)))))))) 7 (suc (suc (suc (suc (suc (suc (suc at))))))) (omega arith) (omega arith)))

@@ -1,5 +1,5 @@
 -- Numbers as bytes, lowest byte first, and the hash FNV-1a of 64 bits. Definitions only. A float's bytes are those of its bit pattern, `to_bits binary64`.
-use Rattle.std.specs.Prelude.{List, [], ◌∷◌, ℕ, zero, suc, ◌+◌, ◌*◌, ◌/◌, ◌%◌, min, Float, get_or}
+use Rattle.std.specs.Prelude.{List, [], ◌∷◌, ℕ, zero, suc, ◌+◌, ◌*◌, ◌/◌, ◌%◌, min, Float, get_or, cond, ltb}
 use Rattle.std.specs.Int.Bits.{bit_xor}
 use Rattle.std.specs.Float.Ieee.{to_bits}
 use Rattle.std.specs.Float.{binary64}
@@ -30,3 +30,7 @@ hash_number h n = hash_bytes 8 h n
 unfoldable pub hash_floats : ℕ → List Float → ℕ
 hash_floats h [] = h
 hash_floats h (x ∷ xs) = hash_floats (hash_number h (to_bits binary64 x)) xs
+
+-- byte k of n; the code's shape
+abbrev pub byte_of : List ℕ → ℕ → ℕ → ℕ → ℕ
+byte_of bytes at n k = cond (ltb k n) (get_or bytes (at + k) 0) 0

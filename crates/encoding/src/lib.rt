@@ -1,30 +1,34 @@
 // Numbers and floats as bytes, lowest byte first.
 #![tactic(auto)]
 
-ghost use Rattle.std.specs.Prelude.{◌≡◌, ◌+◌, ◌*◌, ◌%◌, ◌≤◌, min, get_or};
+ghost use Rattle.std.specs.Prelude.{◌≡◌, ◌+◌, ◌*◌, ◌%◌, ◌≤◌, get_or};
 ghost use Rattle.std.specs.Float.Ieee.{to_bits, of_bits};
 ghost use Rattle.std.specs.Float.{binary64};
-ghost use Rattle.encoding.specs.Encoding.{number_at};
+ghost use Rattle.encoding.specs.Encoding.{byte_of, number_at};
 
-// The byte at `at + k`; 0 past the end.
-fn byte_at(bytes: &[u8], at: usize, k: usize) -> u64
-    ensures value { result ≡ get_or bytes.now (at + k) 0 }
-    ensures upper_bound { result ≤ 255 }
+use std::num::{f64_from_bits_with_nan, f64_to_bits_with_nan};
+
+// Byte k of n from `at` on; 0 past the n and past the end.
+// By `u8_at`, which was tried, the proof did not close: it has to know that no byte stands past the largest index.
+#[tactic(auto, unfolding(crate::specs::Encoding::byte_of))]
+fn byte_of(bytes: &[u8], at: usize, n: usize, k: usize) -> u8
+    ensures { result ≡ byte_of bytes.now at n k }
 {
-    at.checked_add(k)
-        .and_then(|place| bytes.get(place))
-        .map_or(0, |byte| u64::from(*byte))
+    if k < n {
+        at.checked_add(k)
+            .and_then(|place| bytes.get(place))
+            .copied()
+            .unwrap_or(0)
+    } else {
+        0
+    }
 }
 
 // The n bytes from `at` on, at most eight, as a number; bytes past the end count 0.
 pub fn number_at(bytes: &[u8], at: usize, n: usize) -> u64
     ensures { result ≡ number_at bytes.now at n }
 {
-    let mut value: u64 = 0;
-    for k in (0..n.min(8)).rev() {
-        value = value * 256 + byte_at(bytes, at, k);
-    }
-    value
+    u64::from_le_bytes(std::array::from_fn(|k| byte_of(bytes, at, n, k)))
 }
 
 // The byte at an index; 0 past the end.
@@ -45,20 +49,12 @@ pub fn u32_at(bytes: &[u8], at: usize) -> u32
 pub fn bits_of(x: f64) -> u64
     ensures { result ≡ to_bits binary64 x }
 {
-    if x.is_nan() {
-        0x7FF8000000000000
-    } else {
-        x.to_bits()
-    }
+    f64_to_bits_with_nan(x)
 }
 
 // The float of a bit pattern.
 pub fn float_of(bits: u64) -> f64
     ensures { result ≡ of_bits binary64 bits }
 {
-    if 0x7FF0000000000000 < bits % 0x8000000000000000 {
-        f64::NAN
-    } else {
-        f64::from_bits(bits)
-    }
+    f64_from_bits_with_nan(bits)
 }

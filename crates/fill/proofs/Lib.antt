@@ -5,3 +5,5 @@ pub mod Part
 pub mod TabLaws
 pub mod FromFn
 pub mod AllLaws
+pub mod ByIndex
+pub mod StridedLaws

@@ -1,2 +1,4 @@
 pub mod Tab
 pub mod Each
+pub mod By
+pub mod Strided

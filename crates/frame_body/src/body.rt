@@ -7,7 +7,7 @@ use frame_file::{Frame, fill_steps, fill_values};
 use mc_base::{Base, Stereo};
 use mc_decode::decode_mc_frame;
 use mc_error::McError;
-use mc_state::{Accepted, BitString, Buffers, Lent, McDecodeState};
+use mc_state::{Accepted, BitString, Buffers, Lent, Loan, McDecodeState};
 
 // All bytes of a frame after its numbers.
 #[derive(Clone, Copy)]
@@ -22,6 +22,7 @@ impl<'a> Body<'a> {
     ghost use Rattle.mc_state.specs.Frame.{frame_of};
     ghost use Rattle.frame_body.specs.Lent.{head_in, payload_in, lent_from, lent_in, layout_in};
 
+    // The head, and below it the payload: two ranges of one list, each between two places that `Frame` names.
     fn head(self) -> &'a [u8]
         ensures { result.now ≡ head_in self.entry.frame.numbers self.entry.bytes.now }
     {
@@ -39,8 +40,10 @@ impl<'a> Body<'a> {
         ensures { result.now ≡ layout_in self.entry.frame.numbers self.entry.bytes.now }
     {
         let n = self.frame.numbers;
+        // by `as`, here and below: `usize` has no `From<u32>`
         let bits = n.head_bits as usize;
-        layout_of(self.head(), bits, n.reading, n.base_channels)
+        let bytes = self.head();
+        layout_of(BitString { bytes, bits }, n.reading, n.base_channels)
     }
 
     // What the frame lends, of the step counts and values in its bytes.
@@ -60,10 +63,15 @@ impl<'a> Body<'a> {
                 bytes: self.payload(),
                 bits: n.payload_bits as usize,
             },
-            reading: n.reading,
+            loan: Loan {
+                reading: n.reading,
+                rate: n.rate,
+                base_channels: n.base_channels,
+                lfe_allocation: n.lfe_allocation,
+                nb_steps: &steps[32 * channels..32 * channels + 96],
+                base_nb_steps: &steps[0..32 * channels],
+            },
             desk: n.desk,
-            rate: n.rate,
-            base_channels: n.base_channels,
             base: Base {
                 raw: Stereo {
                     left: &values[0..1152],
@@ -74,9 +82,6 @@ impl<'a> Body<'a> {
                     right: &values[1152 * channels + 1152..2304 * channels],
                 },
             },
-            base_nb_steps: &steps[0..32 * channels],
-            lfe_allocation: n.lfe_allocation,
-            nb_steps: &steps[32 * channels..32 * channels + 96],
         }
     }
 

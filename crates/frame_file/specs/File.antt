@@ -20,6 +20,10 @@ version_of bytes =
     cond (eqb (number_at bytes 0 8) (number_at (codes "MCFRAMES") 0 8)) (Some First)
     (cond (eqb (number_at bytes 0 8) (number_at (codes "MCFRAME2") 0 8)) (Some Second) None)
 
+-- by a number: 2 is the second version, each other number the first
+abbrev pub version_from : ℕ → Version
+version_from number = cond (eqb number 2) Second First
+
 -- after the letters, of the bytes that could be read
 abbrev pub opening_with : Option Version → List ℕ → Result Opening OpeningFault
 opening_with None bytes = Err OtherLetters

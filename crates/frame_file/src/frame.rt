@@ -60,14 +60,14 @@ impl TryFrom<Numbers> for Frame {
     }
 }
 
-// Where the parts of its body begin, and where it ends.
+// Where the parts of its body begin, and where it ends. Lengths by `as`, since `usize` has no `From<u32>`.
 impl Frame {
     ghost use Rattle.frame_file.specs.File.{head_at, payload_at, values_at, body_bytes};
 
     pub fn head_at(self) -> usize
         ensures { result ≡ head_at self.numbers }
     {
-        128 * self.numbers.base_channels as usize + 384
+        128 * usize::from(self.numbers.base_channels) + 384
     }
 
     pub fn payload_at(self) -> usize
@@ -87,7 +87,7 @@ impl Frame {
         ensures value { result ≡ body_bytes self.numbers }
         ensures upper_bound { result ≤ 53888 }
     {
-        self.values_at() + 18432 * self.numbers.base_channels as usize
+        self.values_at() + 18432 * usize::from(self.numbers.base_channels)
     }
 }
 

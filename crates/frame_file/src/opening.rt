@@ -30,6 +30,20 @@ impl Version {
     }
 }
 
+// By a number, 2 is the second version and each other number the first.
+impl From<u32> for Version {
+    ghost use Rattle.frame_file.specs.File.{version_from};
+
+    ghost from_gives = { λ number version. version ≡ version_from number };
+
+    fn from(number: u32) -> Version {
+        match number {
+            2 => Version::Second,
+            _ => Version::First,
+        }
+    }
+}
+
 // The version of a file by its letters.
 #[tactic(auto, unfolding(encoding::specs::Encoding::lowest_first))]
 pub fn version_of(bytes: &[u8]) -> Option<Version>

@@ -2,10 +2,7 @@
 ghost use Rattle.std.specs.Prelude.{◌≡◌};
 ghost use Rattle.frame_summary.specs.Summary.{magnitude as Summary·magnitude, larger as Summary·larger, peak_of, nonzero_of, whole_of, millionths_of, summary_of};
 
-use hash::hash_floats;
-
-// FNV-1a before the first byte.
-const HASH_START: u64 = 0xCBF29CE484222325;
+use hash::{START, hash_floats};
 
 #[derive(Clone, Copy)]
 pub struct Summary {
@@ -14,13 +11,14 @@ pub struct Summary {
     pub hash: u64,
 }
 
+// By a test: `abs`, which makes +0 of -0, answers another value than the definition.
 fn magnitude(x: f64) -> f64
     ensures { result ≡ Summary·magnitude x }
 {
     if x < 0.0 { -x } else { x }
 }
 
-// The larger one; the first where one is no number.
+// The larger one; the first where one is no number. By a test: where the first is no number, `max` answers the second.
 fn larger(a: f64, b: f64) -> f64
     ensures { result ≡ Summary·larger a b }
 {
@@ -47,7 +45,7 @@ pub fn summary_of(xs: &[f64]) -> Summary
     Summary {
         peak: peak(xs),
         nonzero: nonzero(xs),
-        hash: hash_floats(HASH_START, xs),
+        hash: hash_floats(START, xs),
     }
 }
 

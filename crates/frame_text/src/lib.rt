@@ -1,6 +1,6 @@
-// Names of channels and words for refusals.
+// Names of channels.
 #![tactic(auto)]
 
 mod text;
 
-pub use text::{name_of, words_of};
+pub use text::name_of;

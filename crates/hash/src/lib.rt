@@ -9,6 +9,9 @@ use encoding::bits_of;
 // 2^40 + 435, the prime of FNV-1a at 64 bits.
 const PRIME: u64 = 0x0000_0100_0000_01B3;
 
+// The hash of no bytes, at which FNV-1a at 64 bits starts.
+pub const START: u64 = 0xCBF2_9CE4_8422_2325;
+
 // The hash h, one byte more.
 fn hash_byte(h: u64, byte: u8) -> u64
     ensures { result ≡ hash_byte h byte }

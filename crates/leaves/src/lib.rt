@@ -12,14 +12,14 @@ use bitalloc::class_of_quantization;
 pub extern "C" fn mc_leaf_scalefactor(index: u32) -> f64
     ensures { result ≡ scalefactor_leaf index }
 {
-    // Rust has no From<u32> for usize
+    // here and below: Rust has no From<u32> for usize
     tables::scalefactor_table()
         .get(index as usize)
         .copied()
         .unwrap_or(0.0)
 }
 
-// Whether a code is below 2^n.
+// Whether a code is below 2^n. A width by its number, as in bit_reader.
 fn has_bits(code: u32, n: u32) -> bool
     requires { n ≤ 16 }
     ensures { result ≡ ltb code (2 ^ n) }
@@ -41,6 +41,7 @@ pub extern "C" fn mc_leaf_requantize_code(nb_steps: u32, code: u32) -> f64
 }
 
 // The digits of a grouped code and its excess in one number.
+#[tactic(auto, using(crate::proofs::DegroupLaws::few, crate::proofs::DegroupLaws::low))]
 fn degroup_packed(nb_steps: u32, combined: u32) -> u32
     requires { (3 ≤ nb_steps) × (nb_steps ≤ 9) × (combined < 65536) }
     ensures { result ≡ packed (degrouped nb_steps combined) (excess_of nb_steps combined) }

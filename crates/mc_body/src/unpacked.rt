@@ -7,7 +7,7 @@ ghost use Rattle.mc_state.specs.Frame.{settings_for, after_unpacked};
 ghost use Rattle.mc_state.specs.Held.{layout_for};
 ghost use Rattle.mc_state.specs.Long.{Long};
 
-use crate::write::{finish_payload, write_samples};
+use crate::write::finish_payload;
 use mc_config::{McConfig, McHeader};
 use mc_error::McError;
 use mc_fields::McStatus;
@@ -29,6 +29,8 @@ fn frame_layout(s: &McSettings) -> HeldLayout
 }
 
 // The frame from its payload on. Refusal 5 stores the history, the others leave the state.
+// Header, status and head bits side by side: the function is public, and mc_head's `McHead` would ask callers for a check word too.
+// Bounds and no narrower types: `Lent` takes any number there (refusals 6 and 14), and `McHeader` holds codes as plain numbers.
 pub fn unpacked_frame(
     state: &mut McDecodeState,
     lent: &Lent<'_>,
@@ -37,31 +39,35 @@ pub fn unpacked_frame(
     head_bits: usize,
     buffers: &mut Buffers<'_>,
 ) -> Result<Accepted, McError>
-    requires long { Long lent.now.base_channels (Base·lent lent.now.base) (buffers_now buffers.old) }
-    requires low { (lent.now.lfe_allocation ≤ 15) × (header.surround ≤ 3) × (lent.now.desk ≤ 7) }
+    requires long { Long lent.now.loan.base_channels (Base·lent lent.now.base) (buffers_now buffers.old) }
+    requires low { (lent.now.loan.lfe_allocation ≤ 15) × (header.surround ≤ 3) × (lent.now.desk ≤ 7) }
     ensures same_slices { SameSlices buffers.old buffers.new }
     ensures frame { let l = lent_now lent.now in after_by result state.new (buffers_now buffers.new) ≡ after_unpacked state.old l.desk (settings_for l header status) head_bits l.payload l.payload_bits l.base (buffers_now buffers.old) }
 {
-    let s = lent.loan().settings(header, status);
+    let s = lent.loan.settings(header, status);
     let mut p = McPayload::default();
-    read_mc_payload(lent.payload.bytes, lent.payload.bits, &s, &mut p)?;
+    read_mc_payload(lent.payload, &s, &mut p)?;
     let own = frame_layout(&s);
-    let next = history(&s, lent.base.scaled);
+    let next = history(lent.base.scaled.both(lent.loan.base_channels));
     let held = state.held();
     if !own.follows(held, s.reading) {
         state.pred_hist = next;
         return Err(McError::ConfigChanged);
     }
     let raw = &mut *buffers.raw;
-    let excess_codes = write_samples(&s, &p, raw, &mut *buffers.lfe);
+    let work = &mut *buffers.work;
+    let output = &mut *buffers.output;
+    let lfe = &mut *buffers.lfe;
+    let raw = raw.as_mut_array().unwrap();
+    let excess_codes = p.write_samples(&s, raw, lfe.as_mut_array().unwrap());
     finish_payload(
         &s,
         &p,
         raw,
         lent.base,
         &state.pred_hist,
-        &mut *buffers.work,
-        &mut *buffers.output,
+        work.as_mut_array().unwrap(),
+        output.as_mut_array().unwrap(),
     );
     state.pred_hist = next;
     let held = held.after(own, s.reading);

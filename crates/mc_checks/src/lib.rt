@@ -3,4 +3,4 @@
 
 mod checks;
 
-pub use checks::{lent_fits, values_fit};
+pub use checks::{lengths_of, lent_fits, values_fit};

@@ -1,5 +1,5 @@
 -- Granules by step counts without the zeros at their end, the width of a code, and the places that have no samples.
-use Rattle.std.specs.Prelude.{◌≡◌, refl, Bool, true, false, List, ℕ, zero, suc, ◌+◌, ◌≤◌, ◌<◌, ltb, length, get_or}
+use Rattle.std.specs.Prelude.{◌≡◌, refl, false, List, ℕ, zero, suc, ◌+◌, ◌*◌, ◌≤◌, ◌<◌, eqb, length, get_or}
 use Rattle.std.proofs.Common.{eq-eqb, arith}
 use mathlib.Core.Path.{fun_ext}
 use Rattle.std.proofs.Math.ListN.{get_or-eq_default}
@@ -7,23 +7,21 @@ use Rattle.bits.specs.Syntax.{Syntax, done, bind, times}
 use Rattle.fill.proofs.TabLaws.{get_or-tab, tab-same}
 use Rattle.bit_reader.specs.Reads.{Goes}
 use Rattle.bit_reader.specs.declared.BitReader.{BitReader}
-use Rattle.mc_fields.specs.Head.{bits_if}
 use Rattle.mc_payload.specs.Payload.{samples_at, granule_at}
-use Rattle.mc_codes.specs.Parts.{codeword_of, codewords_of}
+use Rattle.mc_codes.specs.Parts.{samples_by, codeword_of, codewords_of}
 use Rattle.mc_codes.specs.declared.granules.Codeword.{Codeword}
-
--- the width of an LFE code
-pub lfe-width : (lfe w : ℕ) → w ≡ bits_if (ltb 0 lfe) (lfe + 1) → lfe ≤ 15 → w ≤ 16
-lfe-width lfe w e h = rw e (go (ltb 0 lfe))
-  where
-    go : (t : Bool) → bits_if t (lfe + 1) ≤ 16
-    go true = omega arith
-    go false = omega arith
 
 -- the codeword of a place
 pub codeword-at : (own : List ℕ) (words : List Codeword) (z : Codeword) → words ≡ codewords_of own → (i : ℕ) → i < 96 → get_or words i z ≡ codeword_of (get_or own i 0)
 unfolding codewords_of
 codeword-at own words z e i h = rw e (get_or-tab z (λ k. codeword_of (get_or own k 0)) 96 i h)
+
+-- a place that has samples is read by its codeword
+pub place-by : (own : List ℕ) (words : List Codeword) (z : Codeword) → words ≡ codewords_of own → (gr i : ℕ) → i < 96 → eqb (get_or own i 0) 0 ≡ false
+    → (a : List ℕ) {r r' : BitReader} {m : Syntax (List ℕ)}
+    → Goes r (samples_by (get_or words i z).grouped (get_or words i z).bits (289 * gr + 1 + 3 * i) a) r' m → Goes r (samples_at own gr i a) r' m
+unfolding samples_at samples_by
+place-by own words z e gr i h t a g = rw t (rw (codeword-at own words z e i h) at g)
 
 -- ---- lists of the same step counts
 

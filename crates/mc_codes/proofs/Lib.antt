@@ -3,3 +3,4 @@ pub mod FactorLaws
 pub mod ClassLaws
 pub mod GranuleLaws
 pub mod PayloadLaws
+pub mod PutLaws

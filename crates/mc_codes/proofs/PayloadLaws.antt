@@ -1,13 +1,13 @@
 -- From what was read at the start of a string to what a payload's outcome is.
-use Rattle.std.specs.Prelude.{◌≡◌, Bool, true, false, List, ℕ, Result}
+use Rattle.std.specs.Prelude.{◌≡◌, Bool, true, false, Result}
 use Rattle.std.specs.Result.{IsErrAnd}
 use Rattle.std.proofs.lemmas.Result.{err_from_is_err_and}
-use Rattle.std.proofs.Common.{Bor}
 use Rattle.bits.specs.Syntax.{Syntax, Refusal, plain, accepted, refused, done, refuse, run}
 use Rattle.mc_error.specs.declared.McError.{McError}
 use Rattle.mc_error.specs.Error.{refusal_of}
 use Rattle.bit_reader.specs.Reads.{Goes}
 use Rattle.bit_reader.specs.declared.BitReader.{BitReader}
+use Rattle.bit_reader.specs.declared.BitString.{BitString}
 use Rattle.bit_reader.proofs.ReadLaws.{stays}
 use Rattle.mc_payload.specs.Payload.{Codes, check_layer3}
 use Rattle.mc_codes.specs.Outcome.{outcome_of}
@@ -22,15 +22,15 @@ pub flagged : {A : Type 0} {r : BitReader} (m : Syntax A) {layer3 : Bool} → la
 unfolding check_layer3
 flagged m e = rw e stays
 
-module _ {r : BitReader} {b : Bor (List ℕ)} {l : ℕ} (e : (r.bytes ≡ b) × (r.limit ≡ l) × (r.at ≡ 0)) {m : Syntax Codes} {r' : BitReader} where
-  pub ends-accepted : {a : Codes} → Goes r m r' (done a) → run m b.now l 0 ≡ accepted a r'.at
+module _ {r : BitReader} {s : BitString} (e : (r.string ≡ s) × (r.at ≡ 0)) {m : Syntax Codes} {r' : BitReader} where
+  pub ends-accepted : {a : Codes} → Goes r m r' (done a) → run m s.bytes.now s.bits 0 ≡ accepted a r'.at
   unfolding run
-  ends-accepted g = rw (← e.0, ← e.1, ← e.2) g.same
+  ends-accepted g = rw (← e.0, ← e.1) g.same
 
-  pub ends-refused : {x : Refusal} → Goes r m r' (refuse x) → run m b.now l 0 ≡ refused x
+  pub ends-refused : {x : Refusal} → Goes r m r' (refuse x) → run m s.bytes.now s.bits 0 ≡ refused x
   unfolding run
-  ends-refused g = rw (← e.0, ← e.1, ← e.2) g.same
+  ends-refused g = rw (← e.0, ← e.1) g.same
 
   -- the refusal that `?` returns
-  pub ends-returned : (x : Result (Unit {0}) McError) (y : McError) → IsErrAnd x (λ z. z ≡ y) → Goes r m r' (refuse (refusal_of y)) → (codes : PayloadCodes) → run m b.now l 0 ≡ outcome_of x codes
+  pub ends-returned : (x : Result (Unit {0}) McError) (y : McError) → IsErrAnd x (λ z. z ≡ y) → Goes r m r' (refuse (refusal_of y)) → (codes : PayloadCodes) → run m s.bytes.now s.bits 0 ≡ outcome_of x codes
   ends-returned x y h g codes = let p = err_from_is_err_and x h in rw (p.1, p.2) (ends-refused g)

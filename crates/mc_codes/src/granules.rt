@@ -6,7 +6,7 @@ ghost use Rattle.mc_codes.specs.Parts.{samples_by, codeword_of, codewords_of, st
 
 use bit_reader::BitReader;
 use mc_error::McError;
-use mc_fields::bits_if;
+use mc_fields::LfeAllocation;
 
 // The bits of a place's codes, and whether each is a group code.
 #[derive(Clone, Copy)]
@@ -28,7 +28,7 @@ fn codeword_of(nb_steps: u32) -> Codeword
 fn codewords_of(own: &[u32; 96]) -> [Codeword; 96]
     ensures { result ≡ codewords_of own.now }
 {
-    std::array::from_fn(|i| codeword_of(own[i]))
+    own.map(codeword_of)
 }
 
 // The step counts without the zeros at their end.
@@ -61,21 +61,23 @@ fn read_samples(
     Ok(())
 }
 
-// A granule: the LFE code, then the samples of each place.
+// A granule: the LFE code, then the samples of each place. Step counts stand beside their codewords: a count of no class has a codeword of no
+// bits, and its place is read all the same.
 fn read_granule(
     reader: &mut BitReader<'_>,
     gr: usize,
-    lfe: u8,
+    lfe: LfeAllocation,
     own: &[u32],
     codewords: &[Codeword; 96],
     codes: &mut [u16; 3468],
 ) -> Result<(), McError>
-    requires room { (gr < 12) × (lfe ≤ 15) × (length own.now ≤ 96) }
+    requires room { (gr < 12) × (length own.now ≤ 96) }
     requires table { codewords.now ≡ codewords_of own.now }
-    ensures { Reads reader.old (granule_at lfe own.now gr codes.old) (stored (λ _. codes.new) result) reader.new }
+    ensures { Reads reader.old (granule_at lfe.value own.now gr codes.old) (stored (λ _. codes.new) result) reader.new }
 {
     let first = 289 * gr;
-    codes[first] = reader.read(bits_if(0 < lfe, usize::from(lfe) + 1))? as u16;
+    codes[first] = reader.read(lfe.code_bits())? as u16;
+    // by number, which the place in `codes` needs: own.iter().zip(codewords).enumerate() would give it beside a pair
     for (i, n) in own.iter().enumerate() {
         if *n != 0 {
             read_samples(reader, codewords[i], first + 1 + 3 * i, codes)?;
@@ -87,17 +89,16 @@ fn read_granule(
 // By granule an LFE code and three codes to a place; 0 where there is none.
 pub fn read_granules(
     reader: &mut BitReader<'_>,
-    lfe: u8,
+    lfe: LfeAllocation,
     own: &[u32; 96],
     codes: &mut [u16; 3468],
 ) -> Result<(), McError>
-    requires { lfe ≤ 15 }
-    ensures { Reads reader.old (granules lfe own.now) (stored (λ _. codes.new) result) reader.new }
+    ensures { Reads reader.old (granules lfe.value own.now) (stored (λ _. codes.new) result) reader.new }
 {
     codes.fill(0);
     let codewords = codewords_of(own);
     let steps = trimmed(own);
-    // by number: of chunks that are lent to be written a proof knows the lengths alone
+    // by number: tried codes.chunks_exact_mut(289), after whose loop a proof is told nothing of what was written in `codes`, and it did not close
     for gr in 0..12 {
         read_granule(reader, gr, lfe, steps, &codewords, codes)?;
     }

@@ -29,11 +29,7 @@ pub fn read_predictors(reader: &mut BitReader<'_>, predsi: &[u8; 56]) -> Result<
     for q in 0..48 {
         let n = predsi[7 * (q / 6) + 1 + q % 6];
         if n != 0 {
-            let [delay, first, second, third] = read_predictor(reader, n)?;
-            codes[4 * q] = delay;
-            codes[4 * q + 1] = first;
-            codes[4 * q + 2] = second;
-            codes[4 * q + 3] = third;
+            codes[4 * q..4 * q + 4].copy_from_slice(&read_predictor(reader, n)?);
         }
     }
     Ok(codes)

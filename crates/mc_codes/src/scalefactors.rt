@@ -63,12 +63,10 @@ pub fn read_scalefactors(
     ensures { Reads reader.old (scalefactors steps.now scfsi.now) result reader.new }
 {
     let mut codes = [0u8; 288];
+    // by number, which gives a place's three codes: steps.iter().zip(scfsi).enumerate() would give it beside a pair
     for (i, n) in steps.iter().enumerate() {
         if *n != 0 {
-            let [first, second, third] = read_factors(reader, scfsi[i])?;
-            codes[3 * i] = first;
-            codes[3 * i + 1] = second;
-            codes[3 * i + 2] = third;
+            codes[3 * i..3 * i + 3].copy_from_slice(&read_factors(reader, scfsi[i])?);
         }
     }
     Ok(codes)

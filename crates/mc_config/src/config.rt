@@ -34,7 +34,7 @@ impl McConfig {
         }
     }
 
-    // Front and surround as one number: 3/2 is 32. It stays one, since those who go by it take any u32.
+    // Front and surround as one number: 3/2 is 32. It stays one, since the public functions that take it take any u32.
     pub fn pair(self) -> u32
         ensures { result ≡ pair_of self }
     {
@@ -62,7 +62,7 @@ fn front_of(base_channels: u8, centre: u8) -> u8
 fn pair_of(front: u8, surround: u8) -> u32
     ensures { result ≡ 10 * front + surround }
 {
-    10 * (front as u32) + surround as u32
+    10 * u32::from(front) + u32::from(surround)
 }
 
 // What goes by the pair: main channels, and the bits of a tc_allocation and of a dyn_cross_mode.

@@ -10,7 +10,8 @@ pub use layout::{
 };
 pub use reading::{centre_stops, phantom_of, reading_fits};
 
-// The fields of mc_header() as read: centre code 2, which the standard leaves undefined, is kept.
+// The fields of mc_header() as read: centre code 2, which the standard leaves undefined, is kept. Codes stay the numbers of their bits, since
+// a header may hold any, and the settings that callers lend and the exported bytes hold them so.
 #[derive(Clone, Copy)]
 pub struct McHeader {
     pub ext_bit_stream_present: bool,

@@ -1,9 +1,9 @@
 -- What a tested loan brings, and that each way through a frame call leaves what the definition says.
-use Rattle.std.specs.Prelude.{◌≡◌, Bool, true, false, not, ℕ, ◌≤◌, ◌<◌, eqb, leb, length, Result, Ok, Err}
+use Rattle.std.specs.Prelude.{◌≡◌, Bool, true, false, ℕ, ◌≤◌, ◌<◌, eqb, leb, length, Result, Ok, Err}
 use Rattle.std.specs.Result.{IsErrAnd}
 use Rattle.std.proofs.lemmas.Result.{err_from_is_err_and}
 use Rattle.std.proofs.Common.{sym, ◌∙◌}
-use borrow.Author.Tests.{eqb-true, leb-true, le-leb, lt-leb, not-true, not-false}
+use borrow.Author.Tests.{eqb-true, leb-true, le-leb, lt-leb}
 use Rattle.mc_error.specs.declared.McError.{McError}
 use Rattle.mc_error.specs.declared.McError.TheVariants.{InvalidArgument, InvalidDesk, ValueOutOfRange}
 use Rattle.mc_head.specs.Answer
@@ -21,13 +21,13 @@ use Rattle.mc_state.specs.Answer.{after_by}
 use Rattle.mc_state.specs.Long.{Long}
 
 module _ (l : Lent) (w : Buffers) (st : McDecodeState) (a : Bool) (ea : a ≡ lent_fits l w st) where
-  pub after-lent : not a ≡ true → after_by (Err InvalidArgument) st w ≡ frame_of l w st
+  pub after-lent : a ≡ false → after_by (Err InvalidArgument) st w ≡ frame_of l w st
   unfolding frame_of verdict_of answer_of buffers_of state_of
-  after-lent t = rw (← ea, not-true a t)
+  after-lent t = rw (← ea, t)
 
-  module _ (ta : not a ≡ false) where
+  module _ (ta : a ≡ true) where
     fits : lent_fits l w st ≡ true
-    fits = sym ea ∙ not-false a ta
+    fits = sym ea ∙ ta
 
     -- a loan and lengths that fit
     parts : (loan_fits l.reading l.rate l.base_channels l.lfe l.steps l.base_steps ≡ true)
@@ -72,18 +72,18 @@ module _ (l : Lent) (w : Buffers) (st : McDecodeState) (a : Bool) (ea : a ≡ le
 
     pub after-desk : 7 < l.desk → after_by (Err InvalidDesk) st w ≡ frame_of l w st
     unfolding frame_of verdict_of answer_of buffers_of state_of
-    after-desk h = rw (← ea, not-false a ta, lt-leb l.desk 7 h)
+    after-desk h = rw (← ea, ta, lt-leb l.desk 7 h)
 
     module _ (low : l.desk ≤ 7) (b : Bool) (eb : b ≡ values_fit l.base st.pred_hist) where
-      pub after-values : not b ≡ true → after_by (Err ValueOutOfRange) st w ≡ frame_of l w st
+      pub after-values : b ≡ false → after_by (Err ValueOutOfRange) st w ≡ frame_of l w st
       unfolding frame_of verdict_of answer_of buffers_of state_of
-      after-values t = rw (← ea, not-false a ta, le-leb l.desk 7 low, ← eb, not-true b t)
+      after-values t = rw (← ea, ta, le-leb l.desk 7 low, ← eb, t)
 
-      module _ (tb : not b ≡ false) (r : Result McHead McError) (er : Answer.outcome_of r ≡ head_of l.reading l.head l.head_bits l.base_channels) where
+      module _ (tb : b ≡ true) (r : Result McHead McError) (er : Answer.outcome_of r ≡ head_of l.reading l.head l.head_bits l.base_channels) where
         -- what `?` returns of a refused head
         pub after-head : (e : McError) → r ≡ Err e → (x : Result Accepted McError) → IsErrAnd x (λ y. y ≡ e) → after_by x st w ≡ frame_of l w st
         unfolding frame_of verdict_of verdict_head answer_of buffers_of state_of
-        after-head e q x i = let p = err_from_is_err_and x i in rw (p.1, p.2, ← ea, not-false a ta, le-leb l.desk 7 low, ← eb, not-false b tb, ← er, q)
+        after-head e q x i = let p = err_from_is_err_and x i in rw (p.1, p.2, ← ea, ta, le-leb l.desk 7 low, ← eb, tb, ← er, q)
 
         module _ (h : McHead) (q : r ≡ Ok h) where
           pub surround-low : h.header.surround ≤ 3
@@ -95,4 +95,4 @@ module _ (l : Lent) (w : Buffers) (st : McDecodeState) (a : Bool) (ea : a ≡ le
               → x ≡ after_unpacked st l.desk (settings_of (loan_by l.reading l.rate l.base_channels h.header h.status l.lfe l.steps l.base_steps)) h.used l.payload l.payload_bits l.base w
               → x ≡ frame_of l w st
           unfolding frame_of verdict_of verdict_head after_unpacked
-          after-payload x e = e ∙ rw (← ea, not-false a ta, le-leb l.desk 7 low, ← eb, not-false b tb, ← er, q)
+          after-payload x e = e ∙ rw (← ea, ta, le-leb l.desk 7 low, ← eb, tb, ← er, q)

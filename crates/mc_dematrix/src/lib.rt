@@ -18,9 +18,9 @@ pub struct Signals {
     pub t4: f64,
 }
 
-// ---- the weighted signals (2.5.3.2.1.1)
+// ---- the weighted signals (2.5.3.2.1.1): a function for each of the standard's tables, since their rows are formulas of their own, of three to five values
 
-// 3/2, procedures 0 and 1.
+// 3/2, procedures 0 and 1: a table of five channels.
 #[tactic(auto, unfolding(crate::specs::Dematrix::weighted32))]
 fn weighted_32(tc: u8, x: Signals) -> [f64; 5]
     ensures { result ≡ weighted32 tc x.lo x.ro x.t2 x.t3 x.t4 }
@@ -50,7 +50,7 @@ fn weighted_32(tc: u8, x: Signals) -> [f64; 5]
     }
 }
 
-// 3/2, procedure 2: the surround takes part in the front as 0.5 (t3 + t4).
+// 3/2, procedure 2, a table of its own: the surround takes part in the front as 0.5 (t3 + t4).
 #[tactic(auto, unfolding(crate::specs::Dematrix::phased32))]
 fn phased_32(tc: u8, x: Signals) -> [f64; 5]
     ensures { result ≡ phased32 tc x.lo x.ro x.t2 x.t3 x.t4 }
@@ -90,7 +90,7 @@ fn phased_32(tc: u8, x: Signals) -> [f64; 5]
     }
 }
 
-// 3/1, procedures 0 and 1.
+// 3/1, procedures 0 and 1: a table of four channels.
 #[tactic(auto, unfolding(crate::specs::Dematrix::weighted31))]
 fn weighted_31(tc: u8, x: Signals) -> [f64; 4]
     ensures { result ≡ weighted31 tc x.lo x.ro x.t2 x.t3 }
@@ -117,7 +117,7 @@ fn weighted_31(tc: u8, x: Signals) -> [f64; 4]
     }
 }
 
-// 3/1, procedure 2.
+// 3/1, procedure 2: other signs than in procedures 0 and 1, and a row more.
 #[tactic(auto, unfolding(crate::specs::Dematrix::phased31))]
 fn phased_31(tc: u8, x: Signals) -> [f64; 4]
     ensures { result ≡ phased31 tc x.lo x.ro x.t2 x.t3 }
@@ -145,7 +145,7 @@ fn phased_31(tc: u8, x: Signals) -> [f64; 4]
     }
 }
 
-// 3/0 and 2/1: one main channel, centre or surround.
+// 3/0 and 2/1: one main channel, centre or surround, and a table of three channels.
 #[tactic(auto, unfolding(crate::specs::Dematrix::weighted1))]
 fn weighted_1(tc: u8, x: Signals) -> [f64; 3]
     ensures { result ≡ weighted1 tc x.lo x.ro x.t2 }
@@ -164,7 +164,7 @@ fn weighted_1(tc: u8, x: Signals) -> [f64; 3]
     }
 }
 
-// 2/2.
+// 2/2: the two surround channels are each in one front channel only.
 #[tactic(auto, unfolding(crate::specs::Dematrix::weighted22))]
 fn weighted_22(tc: u8, x: Signals) -> [f64; 4]
     ensures { result ≡ weighted22 tc x.lo x.ro x.t2 x.t3 }
@@ -194,7 +194,7 @@ fn passed_through(pair: u32, x: Signals) -> [f64; 5]
     }
 }
 
-// 3/2, procedures 0 to 2.
+// 3/2, procedures 0 to 2: a row of five. procedure is the header's and tc the status's: definitions take them apart, and a struct would be made for one call.
 #[tactic(auto, unfolding(crate::specs::Dematrix::unweighted))]
 fn dematrix_32(procedure: u8, tc: u8, x: Signals) -> [f64; 5]
     ensures { result ≡ unweighted 32 procedure (cond (eqb procedure 2) (phased32 tc x.lo x.ro x.t2 x.t3 x.t4) (weighted32 tc x.lo x.ro x.t2 x.t3 x.t4)) }
@@ -228,7 +228,7 @@ fn dematrix_31(procedure: u8, tc: u8, x: Signals) -> [f64; 5]
     [w.front(l), w.front(r), w.centre(c), w.surround(s), 0.0]
 }
 
-// The output values, +0 beyond the configuration's.
+// The output values, +0 beyond the configuration's. The codes are numbers, as McHeader and McStatus hold them: callers pass any number there.
 #[tactic(auto, unfolding(crate::specs::Dematrix::dematrixed, crate::specs::Dematrix::weighted, crate::specs::Dematrix::unweighted))]
 pub fn dematrix(pair: u32, procedure: u8, tc: u8, x: Signals) -> [f64; 5]
     ensures { result ≡ dematrixed pair procedure tc x.lo x.ro x.t2 x.t3 x.t4 }

@@ -1,4 +1,5 @@
 -- The number, group and code of each refusal.
+use Rattle.std.specs.Prelude.{ℕ, ◌+◌, ◌*◌, ◌%◌}
 use Rattle.bits.specs.Syntax.{Refusal, plain}
 use Rattle.mc_error.specs.declared.McError.{McError}
 use Rattle.mc_error.specs.declared.McError.TheVariants.{UnexpectedEnd, ForbiddenDynCrossMode, MlLayer3Unsupported, ReservedScalefactor, ConfigChanged, InvalidArgument, ValueOutOfRange, InvalidAllocation, UndefinedCentre, InvalidDesk}
@@ -16,3 +17,7 @@ refusal_of ValueOutOfRange = plain 7
 refusal_of InvalidAllocation = plain 8
 refusal_of UndefinedCentre = plain 13
 refusal_of InvalidDesk = plain 14
+
+-- the low 8 bits are the refusal's number, the next 24 the group, the rest the code
+abbrev pub packed_refusal : Refusal → ℕ
+packed_refusal x = x.number + x.group % 16777216 * 256 + x.code * 4294967296

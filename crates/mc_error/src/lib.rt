@@ -2,7 +2,10 @@
 #![tactic(auto)]
 
 ghost use Rattle.std.specs.Prelude.{◌≡◌};
-ghost use Rattle.mc_error.specs.Error.{refusal_of};
+ghost use Rattle.mc_error.specs.Error.{refusal_of, packed_refusal};
+
+use std::error::Error;
+use std::fmt;
 
 #[derive(Clone, Copy, Debug, PartialEq, Eq)]
 pub enum McError {
@@ -18,6 +21,7 @@ pub enum McError {
     InvalidDesk,
 }
 
+// Methods and no `From<McError>` for a number: a refusal has three numbers and a packed one, and a conversion would not say which.
 impl McError {
     // The refusal's number.
     pub fn number(self) -> u32
@@ -56,4 +60,43 @@ impl McError {
             _ => 0,
         }
     }
+
+    // Number, group and code as one number, as C gets them. By `as`: `u64` has no `From<usize>`, as in all casts between the two.
+    pub fn packed(self) -> u64
+        ensures { result ≡ packed_refusal (refusal_of self) }
+    {
+        u64::from(self.number())
+            + (self.group() % 16777216) as u64 * 256
+            + u64::from(self.code()) * 4294967296
+    }
 }
+
+impl fmt::Display for McError {
+    ghost use Rattle.std.specs.Prelude.{Some};
+    ghost use Rattle.mc_error.specs.Words.{words_of};
+
+    ghost output = { λ e. Some (words_of e) };
+
+    fn fmt<W: fmt::Write>(&self, f: &mut fmt::Formatter<W>) -> fmt::Result {
+        f.write_str(match self {
+            McError::UnexpectedEnd => "a field passes the bit count of its string",
+            McError::ForbiddenDynCrossMode { .. } => "a crosstalk code is not listed",
+            McError::MlLayer3Unsupported => "the header's Layer III flag is set",
+            McError::ReservedScalefactor => "a scalefactor index is 63, which is reserved",
+            McError::ConfigChanged => {
+                "the layout, or under reading 1 its number of channels, is another than before"
+            }
+            McError::InvalidArgument => {
+                "a bit count, reading, rate, LFE allocation, base step count or layout is wrong"
+            }
+            McError::ValueOutOfRange => "a base or history value is not within -4 to 4",
+            McError::InvalidAllocation =>
+                "a step count or LFE allocation that the head does not admit",
+            McError::UndefinedCentre =>
+                "the centre code is 2, which has no meaning under reading 2",
+            McError::InvalidDesk => "the desk is above 7",
+        })
+    }
+}
+
+impl Error for McError {}

@@ -10,7 +10,8 @@ use mc_base::Base;
 use mc_payload::McSettings;
 use mc_places::Places;
 
-// Fills work and output from the record, the base and the history, by the tables of the places.
+// Fills work and output from the record, the base and the history, by the tables of the places. `delays` and `coefs` are two tables of the
+// record, which the definition of the record names one by one.
 pub fn finish(
     s: &McSettings,
     places: &Places,
@@ -30,6 +31,7 @@ pub fn finish(
     ensures output { output.new ≡ output_of s.now (lent base.entry) work.new }
 {
     mc_scale::scale(places, scalefactor, raw, base.raw, work);
-    mc_predict::predict(s, delays, coefs, base.scaled, history, work);
-    mc_output::write_output(s, base.scaled, work, output);
+    let both = base.scaled.both(s.base_channels);
+    mc_predict::predict(s, delays, coefs, both, history, work);
+    mc_output::write_output(s, both, work, output);
 }

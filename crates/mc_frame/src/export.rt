@@ -1,14 +1,16 @@
 // The functions for C; include/koftabasin.h declares them.
 ghost use Rattle.std.specs.Prelude.{◌≡◌};
 ghost use Rattle.mc_base.specs.Base.{base_from};
-ghost use Rattle.mc_state.specs.Answer.{lent_of, buffers_from, packed_by, packed_of, carrying_by, carrying_of};
+ghost use Rattle.mc_state.specs.Answer.{lent_of, buffers_from, packed_by, packed_of, carry_number, carrying_by};
 ghost use Rattle.mc_state.specs.Carry.{carried_over, converted_over};
 ghost use Rattle.mc_state.specs.Frame.{fresh, frame_of};
 
 use mc_base::{Base, Stereo};
 use mc_decode::decode_mc_frame;
 use mc_error::McError;
-use mc_state::{BitString, Buffers, Lent, McDecodeState, pack};
+use mc_state::{
+    BitString, Buffers, Lent, Loan, McDecodeState, carry_mc_state, convert_mc_state, pack,
+};
 
 // C gives what is lent one by one: hence the long list.
 #[unsafe(no_mangle)]
@@ -45,10 +47,15 @@ pub extern "C" fn mc_decode_frame_excess(
             bytes: payload,
             bits: payload_bits,
         },
-        reading,
+        loan: Loan {
+            reading,
+            rate,
+            base_channels,
+            lfe_allocation,
+            nb_steps,
+            base_nb_steps,
+        },
         desk,
-        rate,
-        base_channels,
         base: Base {
             raw: Stereo {
                 left: raw_left,
@@ -59,9 +66,6 @@ pub extern "C" fn mc_decode_frame_excess(
                 right: scaled_right,
             },
         },
-        base_nb_steps,
-        lfe_allocation,
-        nb_steps,
     };
     let mut buffers = Buffers {
         raw,
@@ -82,15 +86,12 @@ pub extern "C" fn mc_fresh_state_desks(state: &mut McDecodeState) -> u32
     0
 }
 
-// Puts the next state in place of the state; the answer is 0, or the refusal's number and the state as it was.
-fn commit(state: &mut McDecodeState, next: Result<McDecodeState, McError>) -> u32
-    ensures { carrying_by result state.new ≡ carrying_of next state.old }
+// What C is answered: 0, or the refusal's number.
+fn answer_of(carried: Result<(), McError>) -> u32
+    ensures { result ≡ carry_number carried }
 {
-    match next {
-        Ok(next) => {
-            *state = next;
-            0
-        }
+    match carried {
+        Ok(()) => 0,
         Err(e) => e.number(),
     }
 }
@@ -100,11 +101,10 @@ fn commit(state: &mut McDecodeState, next: Result<McDecodeState, McError>) -> u3
 pub extern "C" fn mc_carry_state_desks(state: &mut McDecodeState) -> u32
     ensures { carrying_by result state.new ≡ carried_over state.old }
 {
-    let carried = state.carry();
-    commit(state, carried)
+    answer_of(carry_mc_state(state))
 }
 
-// Puts a state of before there were desks, by its fields, in place of the state; the answer is 0, or 6 and the state as it was.
+// Puts a state of before there were desks, by its fields as C has them, in place of the state; the answer is 0, or 6 and the state as it was.
 #[unsafe(no_mangle)]
 pub extern "C" fn mc_convert_state(
     state: &mut McDecodeState,
@@ -115,6 +115,5 @@ pub extern "C" fn mc_convert_state(
 ) -> u32
     ensures { carrying_by result state.new ≡ converted_over pred_hist.now layout_len layout accepted state.old }
 {
-    let converted = McDecodeState::convert(pred_hist, layout_len, layout, accepted);
-    commit(state, converted)
+    answer_of(convert_mc_state(state, pred_hist, layout_len, layout, accepted))
 }

@@ -1,11 +1,12 @@
 -- What a reader that stands at the first bit of a lent head finds, as the definition's outcome.
-use Rattle.std.specs.Prelude.{◌≡◌, Bool, true, false, List, ℕ, ◌≤◌, Result}
+use Rattle.std.specs.Prelude.{◌≡◌, Bool, true, false, ℕ, ◌≤◌, Result}
 use Rattle.std.specs.Result.{IsErrAnd}
 use Rattle.std.proofs.lemmas.Result.{err_from_is_err_and}
 use Rattle.std.proofs.Common.{sym, ◌∙◌, arith}
 use Rattle.bits.specs.Syntax.{Syntax, Refusal, plain, done, refuse, accepted, refused, run}
 use Rattle.bit_reader.specs.Reads.{Goes}
 use Rattle.bit_reader.specs.declared.BitReader.{BitReader}
+use Rattle.bit_reader.specs.declared.BitString.{BitString}
 use Rattle.bit_reader.proofs.ReadLaws.{stays, both-on, both-stops-late, ended-value, ended-refusal}
 use Rattle.mc_config.specs.Config.{config_of}
 use Rattle.mc_config.specs.Reading.{centre_stops}
@@ -49,21 +50,21 @@ module _ (reading base_channels : ℕ) {r r' : BitReader} {h : McHeader} (g : Go
 
 -- ---- the outcome
 
-module _ (reading : ℕ) (bytes : List ℕ) (bits base_channels : ℕ) where
-  pub wrong-loan : (f : Bool) → f ≡ head_fits reading bytes bits base_channels → f ≡ false → refused (plain 6) ≡ head_of reading bytes bits base_channels
-  wrong-loan f e t = sym (lent-wrong reading bytes bits base_channels (sym e ∙ t))
+module _ (reading : ℕ) (string : BitString) (base_channels : ℕ) where
+  pub wrong-loan : (f : Bool) → f ≡ head_fits reading string.bytes.now string.bits base_channels → f ≡ false → refused (plain 6) ≡ head_of reading string.bytes.now string.bits base_channels
+  wrong-loan f e t = sym (lent-wrong reading string.bytes.now string.bits base_channels (sym e ∙ t))
 
-  module _ (f : Bool) (e : f ≡ head_fits reading bytes bits base_channels) (t : f ≡ true) (r r' : BitReader) (eb : r.bytes.now ≡ bytes) (el : r.limit ≡ bits) (ea : r.at ≡ 0) where
-    lent : head_of reading bytes bits base_channels ≡ run (head reading base_channels) r.bytes.now r.limit r.at
-    lent = lent-fits reading bytes bits base_channels (sym e ∙ t) ∙ rw (eb, el, ea)
+  module _ (f : Bool) (e : f ≡ head_fits reading string.bytes.now string.bits base_channels) (t : f ≡ true) (r r' : BitReader) (n : (r.string ≡ string) × (r.at ≡ 0)) where
+    lent : head_of reading string.bytes.now string.bits base_channels ≡ run (head reading base_channels) r.string.bytes.now r.string.bits r.at
+    lent = lent-fits reading string.bytes.now string.bits base_channels (sym e ∙ t) ∙ rw (n.0, n.1)
 
-    pub head-read : (values : McHeader × (ℕ × McStatus)) → Goes r (head reading base_channels) r' (done values) → accepted values r'.at ≡ head_of reading bytes bits base_channels
+    pub head-read : (values : McHeader × (ℕ × McStatus)) → Goes r (head reading base_channels) r' (done values) → accepted values r'.at ≡ head_of reading string.bytes.now string.bits base_channels
     head-read values g = sym (lent ∙ ended-value g)
 
-    pub head-stops : (x : Refusal) → Goes r (head reading base_channels) r' (refuse x) → refused x ≡ head_of reading bytes bits base_channels
+    pub head-stops : (x : Refusal) → Goes r (head reading base_channels) r' (refuse x) → refused x ≡ head_of reading string.bytes.now string.bits base_channels
     head-stops x g = sym (lent ∙ ended-refusal g)
 
     -- what `?` returns where a part was refused
     pub head-returned : (x : Result McHead McError) (y : McError) → IsErrAnd x (λ z. z ≡ y) → Goes r (head reading base_channels) r' (refuse (refusal_of y))
-        → outcome_of x ≡ head_of reading bytes bits base_channels
+        → outcome_of x ≡ head_of reading string.bytes.now string.bits base_channels
     head-returned x y h g = let p = err_from_is_err_and x h in rw (p.1, p.2) (head-stops (refusal_of y) g)

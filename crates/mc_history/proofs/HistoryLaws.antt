@@ -1,11 +1,12 @@
 -- The history that the code keeps is that of the definition.
-use Rattle.std.specs.Prelude.{◌≡◌, List, ℕ, ◌+◌, ◌-◌, ◌*◌, ◌/◌, ◌%◌, ◌≤◌, ◌<◌, Float, length, get_or}
+use Rattle.std.specs.Prelude.{◌≡◌, List, ℕ, ◌+◌, ◌-◌, ◌*◌, ◌/◌, ◌%◌, ◌≤◌, ◌<◌, eqb, Float, length, get_or}
 use Rattle.std.proofs.Common.{◌∙◌, arith, eq-eqb, ne_eqb}
 use borrow.Rule.Slice.PartMut.{put_mid}
 use Rattle.std.specs.Float.{nan}
 use Rattle.fill.specs.Tab.{tab}
 use Rattle.fill.proofs.TabLaws.{length-tab, get_or-tab, all-filled, tab-same}
 use Rattle.fill.proofs.ByTurn.{ByTurn, turn-ends}
+use Rattle.mc_config.proofs.CaseLaws.{cond-all}
 use Rattle.mc_payload.specs.declared.McSettings.{McSettings}
 use Rattle.mc_base.specs.Base.{Base, chosen}
 use Rattle.mc_predict.specs.Predict.{base_for}
@@ -14,6 +15,10 @@ use Rattle.mc_history.specs.HistoryBy.{line_by, history_by}
 use Rattle.mc_predict.proofs.Laws.Chosen.{chosen-base}
 use Rattle.fill.proofs.Part.{length-part, part-in, part-out}
 use Rattle.mc_scale.proofs.Laws.TurnBlock.{turn-block}
+
+-- both base channels are of one length, and so is the one that is chosen
+pub line-long : (ch : ℕ) (left right base : List Float) → length left ≡ 1152 → length right ≡ 1152 → base ≡ chosen ch left right → length base ≡ 1152
+line-long ch left right base l r e = rw e (cond-all (λ (x : List Float). length x ≡ 1152) (eqb ch 0) l r)
 
 -- the channel of a line
 pub first-line : (left right : List Float) (t : ℕ) → t < 32 → left ≡ chosen (t / 32) left right

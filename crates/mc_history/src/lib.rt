@@ -1,34 +1,27 @@
 // The history that the next frame predicts from (ISO/IEC 13818-3, 2.5.3.2.1.3).
 #![tactic(auto)]
 
-ghost use Rattle.std.specs.Prelude.{◌≡◌, cond, ◌<◌, eqb, length};
-ghost use Rattle.fill.specs.Tab.{tab};
-ghost use Rattle.mc_base.specs.Base.{scaled_base};
+ghost use Rattle.std.specs.Prelude.{◌≡◌, ◌<◌};
+ghost use Rattle.mc_base.specs.Base.{Base};
+ghost use Rattle.mc_payload.specs.declared.McSettings.{McSettings};
+ghost use Rattle.mc_predict.specs.Predict.{Both};
 ghost use Rattle.mc_history.specs.History.{history_of};
-ghost use Rattle.mc_history.specs.HistoryBy.{line_by};
+ghost use Rattle.mc_history.specs.HistoryBy.{history_by};
 
 use mc_base::Stereo;
-use mc_payload::McSettings;
 
-// The last nine slots of one subband of a base channel, oldest first.
-fn line_of(base: &[f64; 1152], sb: usize) -> [f64; 9]
-    requires { sb < 32 }
-    ensures { result ≡ tab (line_by base.now sb) 9 }
+// Element i of the history: nine slots of each channel and subband.
+fn value_at(base: Stereo<&[f64; 1152]>, i: usize) -> f64
+    requires { i < 576 }
+    ensures { result ≡ history_by base.entry.left.now base.entry.right.now i }
 {
-    std::array::from_fn(|k| base[32 * (27 + k) + sb])
+    let channel = if i < 288 { base.left } else { base.right };
+    channel[32 * (27 + i % 9) + i % 288 / 9]
 }
 
-// The last nine slots of both base channels for the next frame's prediction; one base channel in both places.
-pub fn history(s: &McSettings, base: Stereo<&[f64]>) -> [f64; 576]
-    requires { (length base.left.now ≡ 1152) × (length base.right.now ≡ cond (eqb s.now.base_channels 1) 0 1152) }
-    ensures { result ≡ history_of s.now (scaled_base base.entry.left.now base.entry.right.now) }
+// The last nine slots of the channels that stand for both of a base, oldest first, for the next frame's prediction.
+pub fn history(base: Stereo<&[f64; 1152]>) -> [f64; 576]
+    ensures { (s : McSettings) (b : Base) → Both s b base.entry.left.now base.entry.right.now → result ≡ history_of s b }
 {
-    let both = base.both(s.base_channels);
-    let mut values = [0.0; 576];
-    // by index: tried chunks_exact_mut, whose loop leaves a proof no element
-    for line in 0usize..64 {
-        let channel = if line < 32 { both.left } else { both.right };
-        values[9 * line..9 * line + 9].copy_from_slice(&line_of(channel, line % 32));
-    }
-    values
+    std::array::from_fn(|i| value_at(base, i))
 }

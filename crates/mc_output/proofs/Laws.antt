@@ -2,3 +2,4 @@
 pub mod OutputByMix
 pub mod LayOut
 pub mod BaseAlone
+pub mod Stores

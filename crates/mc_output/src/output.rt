@@ -1,8 +1,9 @@
 // The output by channel, slot and subband (ISO/IEC 13818-3, 2.5.3.2.1).
-ghost use Rattle.std.specs.Prelude.{◌≡◌, cond, ℕ, ◌<◌, ◌≤◌, eqb, length, get_or};
+ghost use Rattle.std.specs.Prelude.{◌≡◌, cond, ℕ, ◌<◌, ◌≤◌, get_or};
 ghost use Rattle.std.specs.Float.{nan};
 ghost use Rattle.mc_scale.specs.Code.Strided.{across};
-ghost use Rattle.mc_base.specs.Base.{scaled_base};
+ghost use Rattle.mc_base.specs.Base.{Base};
+ghost use Rattle.mc_predict.specs.Predict.{Both};
 ghost use Rattle.mc_output.specs.Output.{output_of};
 ghost use Rattle.mc_output.specs.Code.OutputByMix.{mix_of, tcs_of, main_by, mixed_by, SecondFits, mixed_of, with_second, beyond, base_alone};
 
@@ -21,7 +22,7 @@ struct Mix {
     main: usize,
     channels: usize,
     second_stereo: bool,
-    // subbands from here on carry nothing
+    // no samples are sent for subbands from here on
     limit: usize,
 }
 
@@ -46,7 +47,8 @@ fn tcs_of(tc: &[u8; 12]) -> [u8; 32]
     std::array::from_fn(|sb| tc[sbgr_of_subband(sb)])
 }
 
-// Main channel m at place j of its 1152, as dematrixing takes it.
+// Main channel m at place j of its 1152, as dematrixing takes it. Functions and no methods of `Mix`, which definitions take beside the rest; bounds
+// of m and j are each of the function's own index, and a type for one would be unwrapped at its first use.
 fn main_at(x: &Mix, work: &[f64; 3456], m: usize, j: usize) -> f64
     requires { (m < 3) × (j < 1152) }
     ensures { result ≡ main_by x.now work.now m j }
@@ -78,6 +80,7 @@ fn store_five(values: [f64; 5], j: usize, output: &mut [f64; 5760])
     requires { j < 1152 }
     ensures { output.new ≡ across (λ (ch : ℕ). get_or values ch nan) j output.old }
 {
+    // by index: the places are 1152 apart, so that a chain of `step_by` and `zip` over the rest of the output is no plainer than `j + 1152 * ch`
     for (ch, value) in values.iter().enumerate() {
         output[j + 1152 * ch] = *value;
     }
@@ -93,7 +96,7 @@ fn write_mixed(
 )
     ensures { output.new ≡ mixed_of x.now tcs.now base.entry.left.now base.entry.right.now work.now }
 {
-    // the place is computed with, and is the same in all channels: an iterator would only hand it back
+    // by index: the place is the same in both base channels, in the channels of work and in those of the output
     for j in 0usize..1152 {
         store_five(mixed_at(x, tcs[j % 32], base, work, j), j, output);
     }
@@ -106,6 +109,7 @@ fn write_second(x: &Mix, work: &[f64; 3456], output: &mut [f64; 5760])
 {
     let at = 1152 * (x.channels - 2);
     let from = 1152 * x.main;
+    // work is read by index: tried `zip`, after which a proof is told none of the elements that the loop has written
     for (i, value) in output[at..at + 2304].iter_mut().enumerate() {
         if i % 32 < x.limit {
             *value = work[from + i];
@@ -113,7 +117,7 @@ fn write_second(x: &Mix, work: &[f64; 3456], output: &mut [f64; 5760])
     }
 }
 
-// +0 in the channels beyond the layout.
+// +0 in the channels beyond the layout. That there are at most five is asked here and of who calls: the definition makes a `Mix` of any settings.
 fn clear_beyond(channels: usize, output: &mut [f64; 5760])
     requires { channels ≤ 5 }
     ensures { output.new ≡ beyond channels output.old }
@@ -121,7 +125,7 @@ fn clear_beyond(channels: usize, output: &mut [f64; 5760])
     output[1152 * channels..].fill(0.0);
 }
 
-// The layout, laid over the dematrixed values.
+// A second stereo programme, and +0 beyond the layout, in place of dematrixed values.
 fn lay_out(x: &Mix, work: &[f64; 3456], output: &mut [f64; 5760])
     requires { (x.now.channels ≤ 5) × SecondFits x.now }
     ensures { output.new ≡ beyond x.now.channels (cond x.now.second_stereo (with_second x.now work.now output.old) output.old) }
@@ -132,7 +136,7 @@ fn lay_out(x: &Mix, work: &[f64; 3456], output: &mut [f64; 5760])
     clear_beyond(x.channels, output);
 }
 
-// All slots and subbands where nothing but the base is heard: its channels as they are, and +0 beyond them.
+// All slots and subbands where the output is the base alone: its channels as they are, and +0 beyond them.
 fn write_base(x: &Mix, base: Stereo<&[f64; 1152]>, output: &mut [f64; 5760])
     ensures { output.new ≡ base_alone x.now base.entry.left.now base.entry.right.now }
 {
@@ -143,22 +147,20 @@ fn write_base(x: &Mix, base: Stereo<&[f64; 1152]>, output: &mut [f64; 5760])
     clear_beyond(x.channels.min(2), output);
 }
 
-// Writes the whole output, channel, slot and subband at (36 * channel + slot) * 32 + subband.
+// Writes the whole output, from the channels that stand for both of a base: channel, slot and subband at (36 * channel + slot) * 32 + subband.
 pub fn write_output(
     s: &McSettings,
-    base: Stereo<&[f64]>,
+    base: Stereo<&[f64; 1152]>,
     work: &[f64; 3456],
     output: &mut [f64; 5760],
 )
-    requires { (length base.left.now ≡ 1152) × (length base.right.now ≡ cond (eqb s.now.base_channels 1) 0 1152) }
-    ensures { output.new ≡ output_of s.now (scaled_base base.entry.left.now base.entry.right.now) work.now }
+    ensures { (b : Base) → Both s.now b base.entry.left.now base.entry.right.now → output.new ≡ output_of s.now b work.now }
 {
     let x = mix_of(s);
-    let both = base.both(s.base_channels);
     if x.main == 0 && !x.second_stereo {
-        write_base(&x, both, output);
+        write_base(&x, base, output);
     } else {
-        write_mixed(&x, &tcs_of(&s.status.tc_allocation), both, work, output);
+        write_mixed(&x, &tcs_of(&s.status.tc_allocation), base, work, output);
         lay_out(&x, work, output);
     }
 }

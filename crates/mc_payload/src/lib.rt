@@ -8,6 +8,7 @@ ghost use Rattle.mc_payload.specs.Places.{msblimit};
 use mc_config::McHeader;
 use mc_fields::McStatus;
 
+// The step counts are flat tables, as callers lend them and the definitions have them.
 #[derive(Clone, Copy)]
 pub struct McSettings {
     // of the transfer guide, 1 or 2

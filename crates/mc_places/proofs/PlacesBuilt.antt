@@ -5,7 +5,6 @@ use mir.Syntax.{w8}
 use mir.Val.{Fits}
 use Rattle.mc_config.specs.Config.{main_of, pair_of}
 use Rattle.mc_config.specs.Groups.{sbgr_of}
-use Rattle.mc_config.proofs.GroupsLaws.{sbgr-below}
 use Rattle.mc_config.specs.declared.McConfig.{McConfig}
 use Rattle.mc_roles.specs.Roles.{base_of}
 use Rattle.mc_roles.proofs.RolesLaws.{base-below}
@@ -18,9 +17,6 @@ base-fits pair tc m lr base_channels r e = let h = base-below pair tc m lr base_
 -- ---- the tables, at place i in group g
 
 module _ (i g : ℕ) (e : g ≡ sbgr_of (i / 3)) where
-  pub group-small : i < 96 → 3 * g + i % 3 < 36
-  group-small h = omega (arith, sbgr-below (i / 3))
-
   pub group-place : (t : List ℕ) → get_or t (3 * g + i % 3) 0 ≡ group_at t (i % 3) (i / 3)
   group-place t = rw e
 

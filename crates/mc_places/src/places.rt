@@ -2,13 +2,15 @@
 ghost use Rattle.std.specs.Prelude.{◌≡◌, ℕ, ◌<◌, get_or};
 ghost use Rattle.mc_config.specs.Config.{main_of};
 ghost use Rattle.mc_crosstalk.specs.Crosstalk.{source_of};
+ghost use Rattle.mc_roles.specs.Roles.{base_of};
 ghost use Rattle.mc_places.specs.PlacesBy.{limit_by, limits_by, carried_by, source_by, group_sources, group_bases, steps_by, own_by, places_by, places_of};
 
 use mc_config::McConfig;
 use mc_crosstalk::{FROM_BASE, TRANSMITTED};
 use mc_payload::{McSettings, PHANTOM_LIMIT, msblimit};
 
-// By place, which is 3 * subband + channel: tables and no table of structs, since some who read them are lent one alone.
+// By place, which is 3 * subband + channel: tables and no table of structs, since some who read them are lent one alone. A step count is 0 where there
+// is none: the settings are lent with it so, and the definitions have it so.
 #[derive(Clone, Copy, Default)]
 pub struct Places {
     pub steps: [u32; 96],
@@ -72,31 +74,35 @@ fn source_by(pair: u32, main: usize, mode: u8, second: u8, m: usize) -> u8
     }
 }
 
-// The sources of the three channels in each group.
+// The sources of the three channels in each group. `group_bases` is another function of this shape: the rule behind each is another, and so are the
+// parameters of `source_by` and `base_by`.
 fn group_sources(pair: u32, main: usize, cross: &[u8; 24]) -> [u8; 36]
     requires { main ≡ main_of pair }
     ensures { result ≡ group_sources pair cross.now }
 {
-    let mut table = [0; 36];
-    for (k, source) in table.iter_mut().enumerate() {
+    std::array::from_fn(|k| {
         let g = k / 3;
-        *source = source_by(pair, main, cross[2 * g], cross[2 * g + 1], k % 3);
-    }
-    table
+        source_by(pair, main, cross[2 * g], cross[2 * g + 1], k % 3)
+    })
 }
 
-// The base channels that they copy where their source is FROM_BASE.
+// The base channel that channel m copies where its source is FROM_BASE.
+fn base_by(pair: u32, tc: u8, m: usize, lr: bool, base_channels: u8) -> u8
+    ensures { result ≡ base_of pair tc m lr base_channels }
+{
+    // 0 or 1
+    mc_roles::base_of(pair, tc, m, lr, base_channels) as u8
+}
+
+// The same of the three channels in each group.
 fn group_bases(pair: u32, tc: &[u8; 12], lr: bool, base_channels: u8) -> [u8; 36]
     ensures { result ≡ group_bases pair tc.now lr base_channels }
 {
-    let mut table = [0; 36];
-    for (k, base) in table.iter_mut().enumerate() {
-        *base = mc_roles::base_of(pair, tc[k / 3], k % 3, lr, base_channels) as u8;
-    }
-    table
+    std::array::from_fn(|k| base_by(pair, tc[k / 3], k % 3, lr, base_channels))
 }
 
-// The step count of channel m in subband sb, its own or its source's.
+// The step count of channel m in subband sb, its own or its source's. Bounds and no types of small numbers: the sources and base channels of the
+// tables are plain numbers, as definitions have them, and a place is computed from m and sb.
 #[tactic(auto, unfolding(crate::specs::PlacesBy::steps_by))]
 fn steps_by(
     steps: &[u32; 96],
@@ -133,7 +139,7 @@ fn own_by(steps: &[u32; 96], there: bool, source: u8, m: usize, sb: usize) -> u3
     }
 }
 
-// The tables by place, from those by group.
+// The tables by place, from those by group. Sources and bases are two tables, as the definitions make them: the promise would take pairs apart again.
 fn by_place(
     limits: &[usize; 3],
     sources: &[u8; 36],
@@ -148,7 +154,7 @@ fn by_place(
     let mut own = [0; 96];
     let mut source = [0; 96];
     let mut base = [0; 96];
-    // by index, since four tables are filled at one place
+    // by index: four tables are filled at one place, for which four `from_fn` would find group, source and base anew
     for i in 0..96 {
         let m = i % 3;
         let sb = i / 3;

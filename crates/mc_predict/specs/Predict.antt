@@ -1,5 +1,5 @@
 -- Multichannel prediction (ISO/IEC 13818-3, 2.5.3.2.1.3): from both base channels, in subbands 0 to 7.
-use Rattle.std.specs.Prelude.{◌&&◌, cond, List, [], ◌∷◌, ℕ, zero, suc, ◌+◌, ◌-◌, ◌*◌, ◌/◌, ◌%◌, eqb, ltb, Float, get_or, length}
+use Rattle.std.specs.Prelude.{◌≡◌, ◌&&◌, cond, List, [], ◌∷◌, ℕ, zero, suc, ◌+◌, ◌-◌, ◌*◌, ◌/◌, ◌%◌, eqb, ltb, Float, get_or, length}
 use Rattle.std.specs.Float.{nan}
 use Rattle.std.specs.Float.Ieee.{ne}
 use Rattle.floats.specs.Binary64.{◌⊕◌, ◌⊗◌, zero64}
@@ -14,6 +14,11 @@ use Rattle.mc_scale.specs.Scale.{scaled_at}
 -- the base channel that stands for channel ch: with one base channel always the first
 abbrev pub base_for : McSettings → ℕ → ℕ
 base_for s ch = cond (eqb s.base_channels 1) 0 ch
+
+-- the channels that stand for both of a base
+pub record Both (s : McSettings) (base : Base) (first second : List Float) : Type 0 where
+  pub first_is : first ≡ base.scaled_left
+  pub second_is : second ≡ chosen (base_for s 1) base.scaled_left base.scaled_right
 
 -- base channel ch at a slot and subband
 abbrev pub base_value : McSettings → Base → ℕ → ℕ → ℕ → Float

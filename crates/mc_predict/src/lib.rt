@@ -1,19 +1,20 @@
 // Multichannel prediction (ISO/IEC 13818-3, 2.5.3.2.1.3): from both base channels, in subbands 0 to 7.
 #![tactic(auto)]
 
-ghost use Rattle.std.specs.Prelude.{◌≡◌, cond, [], ℕ, ◌+◌, ◌-◌, ◌*◌, ◌<◌, ◌≤◌, eqb, length, get_or};
+ghost use Rattle.std.specs.Prelude.{◌≡◌, [], ℕ, ◌+◌, ◌-◌, ◌*◌, ◌<◌, ◌≤◌, get_or};
 ghost use Rattle.std.specs.Float.{nan};
 ghost use Rattle.floats.specs.Binary64.{◌⊕◌};
 ghost use Rattle.mc_crosstalk.specs.Crosstalk.{predicted_of};
 ghost use Rattle.mc_scale.specs.Code.Strided.{column};
-ghost use Rattle.mc_predict.specs.Code.PredictByLine.{line_at, line_of, term_of, terms_of, pair_sum, subband_of, groups_of, predicted_work};
+ghost use Rattle.mc_predict.specs.Code.PredictByLine.{line_at, line_of, term_of, terms_of, pair_sum, subband_of, predicted_by};
 
 use mc_base::Stereo;
 use mc_config::McConfig;
 use mc_payload::McSettings;
 use mc_predictors::predictable_channels;
 
-// A base channel in one subband at a time: 9 values of the history, then the frame's 36.
+// A base channel in one subband at a time: 9 values of the history, then the frame's 36. Each function here that takes an index by number asks for
+// its limit, since a type of numbers below 32 would be turned back at each place that is computed from one.
 fn line_at(history: &[f64; 576], base: &[f64; 1152], ch: usize, sb: usize, t: usize) -> f64
     requires { (ch < 2) × (sb < 32) × (t < 45) }
     ensures { result ≡ line_at history.now base.now ch sb t }
@@ -62,7 +63,7 @@ impl Predictor<'_> {
         requires { slot < 36 }
         ensures { result ≡ terms_of sum self.now.coefs self.now.line.now (9 + slot - self.now.delay) }
     {
-        let t = 9 + slot - self.delay as usize;
+        let t = 9 + slot - usize::from(self.delay);
         let one = with_term(sum, self.coefs[0], self.line[t]);
         let two = with_term(one, self.coefs[1], self.line[t - 1]);
         with_term(two, self.coefs[2], self.line[t - 2])
@@ -74,7 +75,7 @@ fn predict_column(by: &Stereo<Predictor>, work: &mut [f64; 3456], at: usize)
     requires { at + 1120 < 3456 }
     ensures { work.new ≡ column (λ (slot : ℕ). get_or work.old (at + 32 * slot) nan ⊕ pair_sum by.now.left.delay by.now.left.coefs by.now.left.line.now by.now.right.delay by.now.right.coefs by.now.right.line.now slot) at work.old }
 {
-    // the slot is computed with, and the places are 32 apart: an iterator would only hand it back
+    // by index: the slot is a place in the two lines, and places in work are 32 apart, so that iterators over both would be no plainer
     for slot in 0usize..36 {
         let one = by.left.with_terms(0.0, slot);
         let sum = by.right.with_terms(one, slot);
@@ -82,7 +83,10 @@ fn predict_column(by: &Stereo<Predictor>, work: &mut [f64; 3456], at: usize)
     }
 }
 
-// One subband: the predicted channels in order, each by its two predictors.
+// One subband: the predicted channels in order, each by its two predictors, which stand in pairs by the channel's place k in the list.
+// `delays` and `coefs` go side by side, and their limit is asked for here and in `predict`: they are two tables of the record, of all groups
+// and predictors, from which a `Predictor`, that has the limit as a ghost field, is made for one channel.
+#[tactic(auto, using(crate::proofs::Laws::PlaceIn::predicted_few))]
 fn predict_subband(
     pair: u32,
     mode: u8,
@@ -97,6 +101,7 @@ fn predict_subband(
     ensures { work.new ≡ subband_of sb (predicted_of pair mode) delays.now coefs.now lines.now.left lines.now.right work.old }
 {
     let predicted = predictable_channels(pair, mode);
+    // by number: `chunks_exact` of both tables would give pairs that are indexed again
     for (k, &m) in predicted.iter().enumerate() {
         let left = Predictor {
             delay: delays[2 * k],
@@ -108,15 +113,13 @@ fn predict_subband(
             coefs: coefs[2 * k + 1],
             line: &lines.right,
         };
-        predict_column(&Stereo { left, right }, work, 1152 * m as usize + sb);
+        predict_column(&Stereo { left, right }, work, 1152 * usize::from(m) + sb);
     }
 }
 
-// The groups whose flag is set, from both base channels.
-fn predict_groups(
-    pair: u32,
-    flags: &[u8; 56],
-    modes: &[u8; 24],
+// Adds the predictions to the scaled values in work: in the groups whose flag is set, from both base channels.
+pub fn predict(
+    s: &McSettings,
     delays: &[[u8; 6]; 8],
     coefs: &[[[f64; 3]; 6]; 8],
     base: Stereo<&[f64; 1152]>,
@@ -124,50 +127,18 @@ fn predict_groups(
     work: &mut [f64; 3456],
 )
     requires { (g px : ℕ) → g < 8 → px < 6 → get_or (get_or delays.now g []) px 0 ≤ 7 }
-    ensures { work.new ≡ groups_of pair flags.now modes.now delays.now coefs.now base.entry.left.now base.entry.right.now history.now work.old }
+    ensures { work.new ≡ predicted_by s.now delays.now coefs.now base.entry.left.now base.entry.right.now history.now work.old }
 {
+    let pair = McConfig::from_header(s.header, s.base_channels).pair();
     // by index, since the subband is a place in each of the tables
     for sb in 0usize..8 {
-        if flags[7 * sb] == 1 {
+        if s.status.mc_prediction[7 * sb] == 1 {
             let lines = Stereo {
                 left: line_of(history, base.left, 0, sb),
                 right: line_of(history, base.right, 1, sb),
             };
-            predict_subband(
-                pair,
-                modes[2 * sb],
-                sb,
-                &delays[sb],
-                &coefs[sb],
-                &lines,
-                work,
-            );
+            let mode = s.status.dyn_cross[2 * sb];
+            predict_subband(pair, mode, sb, &delays[sb], &coefs[sb], &lines, work);
         }
     }
-}
-
-// Adds the predictions to the scaled values in work.
-pub fn predict(
-    s: &McSettings,
-    delays: &[[u8; 6]; 8],
-    coefs: &[[[f64; 3]; 6]; 8],
-    base: Stereo<&[f64]>,
-    history: &[f64; 576],
-    work: &mut [f64; 3456],
-)
-    requires lengths { (length base.left.now ≡ 1152) × (length base.right.now ≡ cond (eqb s.now.base_channels 1) 0 1152) }
-    requires delays_low { (g px : ℕ) → g < 8 → px < 6 → get_or (get_or delays.now g []) px 0 ≤ 7 }
-    ensures { work.new ≡ predicted_work s.now delays.now coefs.now base.entry.left.now base.entry.right.now history.now work.old }
-{
-    let config = McConfig::from_header(s.header, s.base_channels);
-    predict_groups(
-        config.pair(),
-        &s.status.mc_prediction,
-        &s.status.dyn_cross,
-        delays,
-        coefs,
-        base.both(s.base_channels),
-        history,
-        work,
-    );
 }

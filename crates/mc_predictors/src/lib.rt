@@ -28,7 +28,7 @@ static PREDICTABLE_2: [&[u8]; 5] = [&[0, 1], &[0], &[1], &[], &[]];
 
 static PREDICTABLE_1: [&[u8]; 2] = [&[0], &[]];
 
-// The rows of a configuration.
+// The rows of a configuration, in the shape of `source_rows` of mc_crosstalk, which says why each table has its own match.
 #[tactic(auto, unfolding(mc_crosstalk::specs::Predictors::predictable3, mc_crosstalk::specs::Predictors::predictable2, mc_crosstalk::specs::Predictors::predictable1))]
 fn predictable_rows(pair: u32) -> &'static [&'static [u8]]
     ensures { map (λ row. row.now) result.now ≡ predictable_rows pair }
@@ -46,7 +46,7 @@ pub fn predictable_channels(pair: u32, mode: u8) -> &'static [u8]
     ensures { result.now ≡ predicted_of pair mode }
 {
     predictable_rows(pair)
-        .get(mode as usize)
+        .get(usize::from(mode))
         .copied()
         .unwrap_or(&[])
 }

@@ -37,7 +37,7 @@ static ROLES_21: [&[u8]; 3] = [&[S], &[L], &[R]];
 
 static ROLES_0: [&[u8]; 1] = [&[]];
 
-// The rows of a configuration.
+// The rows of a configuration, in the shape of `source_rows` of mc_crosstalk, which says why each table has its own match.
 #[tactic(auto, unfolding(crate::specs::Roles::roles32, crate::specs::Roles::roles31, crate::specs::Roles::roles30, crate::specs::Roles::roles22, crate::specs::Roles::roles21, crate::specs::Roles::roles0))]
 fn role_rows(pair: u32) -> &'static [&'static [u8]]
     ensures rows { map (λ row. row.now) result.now ≡ role_rows pair }
@@ -58,7 +58,7 @@ pub fn tc_roles(pair: u32, tc: u8) -> &'static [u8]
     ensures { result.now ≡ tc_roles_of pair tc }
 {
     let rows = role_rows(pair);
-    rows[(tc as usize).min(rows.len() - 1)]
+    rows[usize::from(tc).min(rows.len() - 1)]
 }
 
 // The role of main channel m; past the list, left.
@@ -68,7 +68,8 @@ pub fn role(roles: &[u8], m: usize) -> u8
     roles.get(m).copied().unwrap_or(mc_config::LEFT)
 }
 
-// The base channel that a crossed channel in this role copies.
+// The base channel that a crossed channel in this role copies, 0 or 1. A number, as the definition, Places.base and `chosen` of mc_base have it;
+// callers of `chosen` pass any u8.
 #[tactic(auto, unfolding(crate::specs::Roles::fallback_of))]
 pub fn fallback_base_channel(role: u8, dyn_cross_lr: bool) -> usize
     ensures { result ≡ fallback_of role dyn_cross_lr }
@@ -80,7 +81,8 @@ pub fn fallback_base_channel(role: u8, dyn_cross_lr: bool) -> usize
     }
 }
 
-// The base channel that main channel m copies; with one base channel always the first.
+// The base channel that main channel m copies; with one base channel always the first. `pair`, `lr` and `base_channels` stand side by side here and in
+// mc_places: codes of the configuration, of the status and of the frame, which the definitions take apart.
 #[tactic(auto, unfolding(crate::specs::Roles::base_of))]
 pub fn base_of(pair: u32, tc: u8, m: usize, lr: bool, base_channels: u8) -> usize
     ensures { result ≡ base_of pair tc m lr base_channels }

@@ -17,12 +17,13 @@ use Rattle.bitalloc.specs.Classes.{is_class, class_of}
 use Rattle.bitalloc.specs.declared.QuantClass.{QuantClass}
 use Rattle.requant.specs.Requant.{requantized}
 use Rattle.mc_payload.specs.Unpack.{steps_fit}
-use Rattle.mc_values.specs.Values.{three_codes, three_values, first_at, values_at, raw_by, raw_in, raw_from, spread, ValuesFit}
-use Rattle.mc_values.proofs.ValuesLaws.{length-spread, spread-more, get_or-spread, get_or-kept}
+use Rattle.mc_values.specs.Values.{three_codes, three_values, first_at, values_at, raw_by, raw_in, raw_from, ValuesFit}
+use Rattle.fill.specs.Strided.{strided}
+use Rattle.fill.proofs.StridedLaws.{length-strided, strided-more, get_or-strided, strided-other}
 
 module _ (class : QuantClass) (x y z : ℕ) (codes : List ℕ) (e : codes ≡ three_codes class.grouping class.nb_steps x y z) where
-  pub code-small : ValuesFit class x y z → (k : ℕ) → get_or codes k 0 < 2 ^ class.bits_per_sample
-  code-small f k = rw e (f.codes k)
+  pub code_small : ValuesFit class x y z → (k : ℕ) → get_or codes k 0 < 2 ^ class.bits_per_sample
+  code_small f k = rw e (f.codes k)
 
   pub three_made : (u v w : Float) → u ≡ requantized class (get_or codes 0 0) → v ≡ requantized class (get_or codes 1 0) → w ≡ requantized class (get_or codes 2 0)
       → u ∷ v ∷ w ∷ [] ≡ three_values class x y z
@@ -40,9 +41,9 @@ module _ (n : ℕ) (granules : List ℕ) (i gr : ℕ) (class : QuantClass) (ec :
       rw (d, m, ← ec, ← ev)
 
   -- three stores
-  pub place-next : (a : ℕ) (raw d : List Float) → raw ≡ spread (raw_by n granules i) a (3 * gr) d
+  pub place-next : (a : ℕ) (raw d : List Float) → raw ≡ strided 32 (raw_by n granules i) a (3 * gr) d
       → set (set (set raw (a + 96 * gr) (get_or values 0 nan)) (a + 96 * gr + 32) (get_or values 1 nan)) (a + 96 * gr + 64) (get_or values 2 nan)
-      ≡ spread (raw_by n granules i) a (3 * (gr + 1)) d
+      ≡ strided 32 (raw_by n granules i) a (3 * (gr + 1)) d
   place-next a raw d e =
       let f = raw_by n granules i in
       let i₀ : a + 96 * gr ≡ a + 32 * (3 * gr + 0) = omega arith in
@@ -52,10 +53,10 @@ module _ (n : ℕ) (granules : List ℕ) (i gr : ℕ) (class : QuantClass) (ec :
       let n₁ : 3 * gr + 0 + 1 ≡ 3 * gr + 1 = omega arith in
       let n₂ : 3 * gr + 1 + 1 ≡ 3 * gr + 2 = omega arith in
       let n₃ : 3 * gr + 2 + 1 ≡ 3 * (gr + 1) = omega arith in
-      let s₀ : raw ≡ spread f a (3 * gr + 0) d = rw (← n₀) e in
-      let s₁ : set raw (a + 96 * gr) (get_or values 0 nan) ≡ spread f a (3 * gr + 1) d = rw (s₀, i₀, slot-value 0 (omega arith), ← n₁) (spread-more f a (3 * gr + 0) d) in
-      let s₂ : set (spread f a (3 * gr + 1) d) (a + 96 * gr + 32) (get_or values 1 nan) ≡ spread f a (3 * gr + 2) d = rw (i₁, slot-value 1 (omega arith), ← n₂) (spread-more f a (3 * gr + 1) d) in
-      rw (s₁, s₂, i₂, slot-value 2 (omega arith), ← n₃) (spread-more f a (3 * gr + 2) d)
+      let s₀ : raw ≡ strided 32 f a (3 * gr + 0) d = rw (← n₀) e in
+      let s₁ : set raw (a + 96 * gr) (get_or values 0 nan) ≡ strided 32 f a (3 * gr + 1) d = rw (s₀, i₀, slot-value 0 (omega arith), ← n₁) (strided-more 32 f a d (3 * gr + 0)) in
+      let s₂ : set (strided 32 f a (3 * gr + 1) d) (a + 96 * gr + 32) (get_or values 1 nan) ≡ strided 32 f a (3 * gr + 2) d = rw (i₁, slot-value 1 (omega arith), ← n₂) (strided-more 32 f a d (3 * gr + 1)) in
+      rw (s₁, s₂, i₂, slot-value 2 (omega arith), ← n₃) (strided-more 32 f a d (3 * gr + 2))
 
 -- a step count that may stand and is not 0 is that of a class
 pub own-fits : (n : ℕ) → steps_fit n ≡ true → (n ≡ 0 → ⊥) → is_class n ≡ true
@@ -103,7 +104,7 @@ module _ (own granules : List ℕ) where
           rest = λ m slot sb hm hs hb l. w.rest m slot sb hm hs hb (omega arith);
         })
 
-    module _ (n : get_or own i 0 ≡ 0 → ⊥) (e : raw' ≡ spread (raw_by (get_or own i 0) granules i) (1152 * (i % 3) + i / 3) 36 raw) where
+    module _ (n : get_or own i 0 ≡ 0 → ⊥) (e : raw' ≡ strided 32 (raw_by (get_or own i 0) granules i) (1152 * (i % 3) + i / 3) 36 raw) where
       a : ℕ
       a = 1152 * (i % 3) + i / 3
 
@@ -115,17 +116,17 @@ module _ (own granules : List ℕ) where
       here m slot sb hm hs hb eq =
           let long = w.long in
           let j : 1152 * m + 32 * slot + sb ≡ a + 32 * slot = omega arith in
-          rw (e, j, eq, ne_eqb (get_or own i 0) 0 n) (get_or-spread f a nan 36 raw slot hs (omega arith))
+          rw (e, j, eq, ne_eqb (get_or own i 0) 0 n) (get_or-strided 32 f a raw nan 36 slot (omega arith) hs (omega arith))
 
       there : (m slot sb : ℕ) → m < 3 → slot < 36 → sb < 32 → (3 * sb + m ≡ i → ⊥) → get_or raw' (1152 * m + 32 * slot + sb) nan ≡ get_or raw (1152 * m + 32 * slot + sb) nan
       unfolding a f
-      there m slot sb hm hs hb ne = rw e (get_or-kept f a nan 36 raw (1152 * m + 32 * slot + sb) (λ j l eq. ne (same_place m slot sb j hm hs hb l h eq)))
+      there m slot sb hm hs hb ne = rw e (strided-other 32 f a raw nan 36 (1152 * m + 32 * slot + sb) (λ j l eq. ne (same_place m slot sb j hm hs hb l h eq)))
 
       written-here : Written own granules raw' (i + 1)
       unfolding a f
       written-here =
           record {
-            long = ap length e ∙ (length-spread f a 36 raw ∙ w.long);
+            long = ap length e ∙ (length-strided 32 f a raw 36 ∙ w.long);
             done = λ m slot sb hm hs hb l. let q : 3 * sb + m ≤ i = omega arith in ⊎_elim
                 (λ eq. here m slot sb hm hs hb eq)
                 (λ lt. there m slot sb hm hs hb (λ eq. absurd (omega arith)) ∙ w.done m slot sb hm hs hb lt)
@@ -134,7 +135,7 @@ module _ (own granules : List ℕ) where
           }
 
     -- the buffer as it comes back from a call that writes the place
-    pub written-place : (get_or own i 0 ≡ 0 → ⊥) → (left : List Float) → left ≡ spread (raw_by (get_or own i 0) granules i) (1152 * (i % 3) + i / 3) 36 raw → raw' ≡ left
+    pub written-place : (get_or own i 0 ≡ 0 → ⊥) → (left : List Float) → left ≡ strided 32 (raw_by (get_or own i 0) granules i) (1152 * (i % 3) + i / 3) 36 raw → raw' ≡ left
         → Written own granules raw' (i + 1)
     written-place n left e e' = written-here n (e' ∙ e)
 

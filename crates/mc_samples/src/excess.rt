@@ -11,7 +11,7 @@ fn has_groups(n: u32) -> bool
     n != 0 && bitalloc::class_or_zero(n).grouping
 }
 
-// The excess of a code of n steps.
+// The excess of a code of n steps. `0 < n`: a place without samples has 0, and no code.
 fn excess_of(n: u32, code: u16) -> u16
     requires { 0 < n }
     ensures { result ≡ Requant·excess_of n code }
@@ -19,7 +19,8 @@ fn excess_of(n: u32, code: u16) -> u16
     requant::degroup(n, u32::from(code)).excess as u16
 }
 
-// By place and granule; 0 where a place has no group codes.
+// By place and granule; 0 where a place has no group codes. Both loops count: a place's number gives its part of the table, and with a granule's
+// number its code in `granules`, where 289 numbers are a granule's.
 pub fn excesses(own: &[u32; 96], granules: &[u16; 3468]) -> [u16; 1152]
     ensures { result ≡ excesses_from own.now granules.now }
 {

@@ -12,17 +12,18 @@ use mc_base::Stereo;
 use mc_crosstalk::{FROM_BASE, TRANSMITTED};
 use mc_places::Places;
 
-// The factors of all places, each looked up once.
+// The factors of all places, each looked up once. By `from_fn`, since that an index is
+// below 63 is known by its number, and `map` would ask it of the element alone.
 fn factors_of(scalefactor: &[u8; 288]) -> [f64; 288]
     requires { (i : ℕ) → i < 288 → get_or scalefactor.now i 0 < 63 }
     ensures { result ≡ factors_of scalefactor.now }
 {
     let table = tables::scalefactor_table();
-    std::array::from_fn(|i| table[scalefactor[i] as usize])
+    std::array::from_fn(|i| table[usize::from(scalefactor[i])])
 }
 
 // One subband of a channel: the values that `src` has from `from` on, times the factors of the place. By index, since both go in steps of
-// 32 from different places: a chain of step_by and zip is no plainer.
+// 32 from different places: a chain of step_by and zip is no plainer. Bounds are of each function's own place, as the tables of places have none.
 fn scale_column(
     src: &[f64],
     from: usize,
@@ -63,12 +64,19 @@ fn scale_place(
             work,
             at,
         ),
-        earlier => scale_column(raw, 1152 * earlier as usize + sb, factors, place, work, at),
+        earlier => scale_column(
+            raw,
+            1152 * usize::from(earlier) + sb,
+            factors,
+            place,
+            work,
+            at,
+        ),
     }
 }
 
-// All places, channel by channel: work holds the scaled values, channel m, slot and subband at (36 * m + slot) * 32 + subband; +0 where
-// the step count is 0. A source is multiplied while it is read, with no copy in work. The second promise: that is the same as copying all
+// All places: work holds the scaled values, channel m, slot and subband at (36 * m + slot) * 32 + subband; +0 where the step count is 0.
+// A source is multiplied while it is read, with no copy in work. The second promise: that is the same as copying all
 // sources into work and then multiplying work, whatever it held.
 pub fn scale(
     places: &Places,
@@ -83,10 +91,9 @@ pub fn scale(
 {
     let factors = factors_of(scalefactor);
     work.fill(0.0);
-    // the place is computed with: an iterator over the step counts goes in another order
-    for i in 0usize..96 {
-        let place = 3 * (i % 32) + i / 32;
-        if places.steps[place] != 0 {
+    // with its number, by which a place finds its source, its factors and its column
+    for (place, steps) in places.steps.iter().enumerate() {
+        if *steps != 0 {
             scale_place(place, places, &factors, raw, base, work);
         }
     }

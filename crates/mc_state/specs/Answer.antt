@@ -1,7 +1,7 @@
 -- What the code's arguments and its answer say, in the definition's terms.
 use Rattle.std.specs.Prelude.{◌≡◌, List, ℕ, ◌+◌, ◌*◌, ◌%◌, Float, Result, Ok, Err}
 use Rattle.bits.specs.Syntax.{accepted, refused}
-use Rattle.mc_error.specs.Error.{refusal_of}
+use Rattle.mc_error.specs.Error.{refusal_of, packed_refusal}
 use Rattle.mc_error.specs.declared.McError.{McError}
 use Rattle.mc_base.specs.Base.{Base, lent}
 use Rattle.mc_loan.specs.declared.loan.Loan.{Loan}
@@ -33,19 +33,12 @@ lent_of head head_bits payload payload_bits reading desk rate base_channels base
 -- the same of the struct that lends it
 abbrev pub lent_now : Lending.Lent → Lent
 lent_now l =
-    lent_of l.head.bytes.now l.head.bits l.payload.bytes.now l.payload.bits l.reading l.desk l.rate l.base_channels (lent l.base) l.base_nb_steps.now l.lfe_allocation l.nb_steps.now
+    let k = l.loan in
+    lent_of l.head.bytes.now l.head.bits l.payload.bytes.now l.payload.bits k.reading l.desk k.rate k.base_channels (lent l.base) k.base_nb_steps.now k.lfe_allocation k.nb_steps.now
 
 -- what its payload is read under, beside the head
 abbrev pub loan_in : Lending.Lent → Loan
-loan_in l =
-    record {
-      reading = l.reading;
-      rate = l.rate;
-      base_channels = l.base_channels;
-      lfe_allocation = l.lfe_allocation;
-      nb_steps = l.nb_steps;
-      base_nb_steps = l.base_nb_steps;
-    }
+loan_in l = l.loan
 
 abbrev pub buffers_from : List Float → List Float → List Float → List Float → Buffers
 buffers_from raw work output lfe = record { raw = raw; work = work; output = output; lfe = lfe }
@@ -88,11 +81,11 @@ carrying_of (Err e) before = carrying_by (refusal_of e).number before
 -- ---- the answer as one number, for C
 
 -- the low 8 bits are the refusal's number, 0 for none; of an accepted frame the next 24 are the used head bits, the next 20 the used payload bits and the high 12
--- the number of excesses; of a refused one the next 24 are the group and the high 32 the code
+-- the number of excesses; of a refused one the next 24 are the group and the high 32 the code (`packed_refusal`)
 abbrev pub packed : Answer → ℕ
 packed (accepted (head_bits, excess_codes) payload_bits) =
     head_bits % 16777216 * 256 + payload_bits % 1048576 * 4294967296 + excess_codes % 4096 * 4503599627370496
-packed (refused x) = x.number + x.group % 16777216 * 256 + x.code * 4294967296
+packed (refused x) = packed_refusal x
 
 pub record PackedAfter : Type 0 where
   pub answer : ℕ

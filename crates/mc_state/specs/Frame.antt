@@ -13,7 +13,7 @@ use Rattle.mc_payload.specs.Record.{excesses_of, record_of, excess_codes}
 use Rattle.fill.specs.Each.{each}
 use Rattle.mc_payload.specs.Unpack.{settings_of, loan_fits, loan_by}
 use Rattle.mc_unpack.specs.Settled.{settled_of}
-use Rattle.mc_base.specs.Base.{Base}
+use Rattle.mc_base.specs.Base.{Base, second_length}
 use Rattle.mc_output.specs.Output.{work_of, output_of, channels}
 use Rattle.mc_history.specs.History.{history_of}
 use Rattle.mc_state.specs.declared.McDecodeState.{McDecodeState}
@@ -48,7 +48,7 @@ pub record Buffers : Type 0 where
 
 -- values of a second base channel
 abbrev pub right_length : ℕ → ℕ
-right_length base_channels = cond (eqb base_channels 1) 0 1152
+right_length base_channels = second_length base_channels 1152
 
 -- lengths of the base's four lists
 abbrev pub values_long : ℕ → ℕ → ℕ → ℕ → ℕ → Bool

@@ -7,7 +7,8 @@ use crate::McDecodeState;
 use mc_error::McError;
 
 impl McDecodeState {
-    // Keeps all but the layout, of which the count stays. Refuses only a wrong count or layout, and looks at no value of the history.
+    // Keeps all but the layout, of which the count stays. Refuses only a wrong count or layout, whatever the history's values are.
+    // By value, and in place by `carry_mc_state`, which is this and a store: one function for both is no plainer.
     #[tactic(auto, unfolding(crate::specs::Carry::carried_over))]
     pub fn carry(self) -> Result<McDecodeState, McError>
         ensures { carrying_of result self ≡ carried_over self }

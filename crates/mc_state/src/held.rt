@@ -42,8 +42,8 @@ fn is_layout(layout: u8) -> bool
 }
 
 // A number of output channels, and their layout, 10 * front + surround code: those of a frame; or those that a state holds, which is 0 channels
-// before the first frame, and layout 0 where only the number is known.
-#[derive(Clone, Copy)]
+// before the first frame, and layout 0 where only the number is known. Numbers and no `Option`, since C has them as fields of the state.
+#[derive(Clone, Copy, PartialEq, Eq)]
 pub struct HeldLayout {
     pub count: u8,
     pub layout: u8,

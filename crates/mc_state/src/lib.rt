@@ -2,7 +2,9 @@
 // sequences of calls in specs/Reel.antt, and what the packed answer loses, which is nothing, in specs/Packing.antt.
 #![tactic(auto)]
 
+pub use bit_reader::BitString;
 use mc_error::McError;
+pub use mc_loan::Loan;
 
 mod carry;
 mod convert;
@@ -13,14 +15,15 @@ mod packing;
 mod state;
 
 pub use carry::carry_mc_state;
+pub use convert::convert_mc_state;
 pub use desk::tallied;
 pub use held::{HeldLayout, channel_count};
-pub use loan::{BitString, Buffers, Lent};
+pub use loan::{Buffers, EachBuffer, Lent};
 pub use packing::pack;
 
 // What a decoder keeps from frame to frame.
 #[repr(C)]
-#[derive(Clone, Copy)]
+#[derive(Clone, Copy, Default)]
 pub struct McDecodeState {
     // base channel, subband and place at (32 * channel + subband) * 9 + place, oldest first
     pub pred_hist: [f64; 576],
@@ -40,7 +43,7 @@ pub struct Accepted {
     pub excess_codes: u32,
 }
 
-// The answer, and the state after it: refusal 5 stores the history.
+// The answer, and the state after it. A struct and no `Result` of the state, since a refused frame may change it: refusal 5 stores the history.
 #[derive(Clone, Copy)]
 pub struct Framed {
     pub answer: Result<Accepted, McError>,

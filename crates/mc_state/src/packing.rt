@@ -5,6 +5,7 @@ ghost use Rattle.mc_state.specs.Answer.{outcome_of, packed};
 use crate::Accepted;
 use mc_error::McError;
 
+// Not `From`: `Result` and `u64` are types of std.
 pub fn pack(answer: Result<Accepted, McError>) -> u64
     ensures { result ≡ packed (outcome_of answer) }
 {
@@ -12,10 +13,8 @@ pub fn pack(answer: Result<Accepted, McError>) -> u64
         Ok(a) => {
             (a.head_bits % 16777216) as u64 * 256
                 + (a.payload_bits % 1048576) as u64 * 4294967296
-                + (a.excess_codes % 4096) as u64 * 4503599627370496
+                + u64::from(a.excess_codes % 4096) * 4503599627370496
         }
-        Err(e) => {
-            e.number() as u64 + (e.group() % 16777216) as u64 * 256 + e.code() as u64 * 4294967296
-        }
+        Err(e) => e.packed(),
     }
 }

@@ -13,11 +13,6 @@ impl McDecodeState {
     pub fn new() -> McDecodeState
         ensures { result ≡ fresh }
     {
-        McDecodeState {
-            pred_hist: [0.0; 576],
-            layout_len: 0,
-            layout: 0,
-            accepted: [0; 8],
-        }
+        McDecodeState::default()
     }
 }

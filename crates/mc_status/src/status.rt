@@ -11,7 +11,8 @@ use mc_error::McError;
 use mc_fields::{McStatus, bits_if};
 use mc_predictors::npred_for;
 
-// tc_allocation of the twelve groups: read once for all, or for each.
+// tc_allocation of the twelve groups: read once for all, or for each. That a width is at most 8 is asked of the width of one field, here and in
+// read_dyn_cross; as a ghost field of McConfig, which read_status is given, it would be asked of all who make one.
 pub fn read_tc_allocation(
     reader: &mut BitReader<'_>,
     once: bool,
@@ -30,7 +31,8 @@ pub fn read_tc_allocation(
     Ok(table)
 }
 
-// dyn_cross_mode and dyn_second_stereo of the twelve groups. By index: tried chunks_exact_mut, whose loop leaves a proof no element.
+// dyn_cross_mode and dyn_second_stereo of the twelve groups. By number: tried chunks_exact_mut; of a table that is written
+// by chunks a proof is told the length alone, and it did not close.
 pub fn read_dyn_cross(
     reader: &mut BitReader<'_>,
     mode_bits: usize,
@@ -55,7 +57,7 @@ fn predictors_if(flag: bool, pair: u32, mode: u8) -> usize
     if flag { npred_for(pair, mode) } else { 0 }
 }
 
-// mc_prediction of groups 0 to 7, and where it is set predsi of each predictor. By index, as read_dyn_cross.
+// mc_prediction of groups 0 to 7, and where it is set predsi of each predictor. By number, as read_dyn_cross.
 pub fn read_prediction(
     reader: &mut BitReader<'_>,
     on: bool,
@@ -68,14 +70,15 @@ pub fn read_prediction(
     for g in 0..McConfig::PREDICTED_GROUPS {
         let flag = reader.read(bits_if(on, 1))?;
         table[7 * g] = flag as u8;
-        for px in 0..predictors_if(flag == 1, pair, dyn_cross[2 * g]) {
-            table[7 * g + 1 + px] = reader.read(2)? as u8;
+        let n = predictors_if(flag == 1, pair, dyn_cross[2 * g]);
+        for count in table[7 * g + 1..7 * g + 1 + n].iter_mut() {
+            *count = reader.read(2)? as u8;
         }
     }
     Ok(table)
 }
 
-// The lowest group whose code is not listed.
+// The lowest group whose code is not listed: by number, which is the answer. Codes and flags of the tables are numbers, as McStatus says.
 pub fn first_forbidden(pair: u32, dyn_cross: &[u8; 24]) -> Option<usize>
     ensures { result ≡ forbidden_group pair dyn_cross.now }
 {

@@ -1,4 +1,4 @@
-pub mod EntryDecided
-pub mod EntryAnswer
+pub mod EntryLaws
 pub mod RecordLaws
+pub mod SamplesLaws
 pub mod SettledLaws

@@ -50,6 +50,9 @@ settled-returned x y h e codes = let p = err_from_is_err_and x h in rw (p.1, p.2
 
 -- ---- refused
 
+pub plain-number : (n m : ℕ) → plain n ≡ plain m → n ≡ m
+plain-number n m e = ap (λ (r : Refusal). r.number) e
+
 run-refused : (s : McSettings) (bytes : List ℕ) (bits : ℕ) (x : Refusal) → run (payload_of s) bytes bits 0 ≡ refused x → Numbered x.number
 unfolding payload_of
 run-refused s bytes bits x e =

@@ -1,19 +1,22 @@
-// The unpacking call: one function decides, on what is lent and not written, and only then are the buffers written.
-ghost use Rattle.std.specs.Prelude.{◌≡◌, ◌≤◌, ◌&&◌, IfErr};
+// The unpacking call: all is decided on what is lent and not written, and only then are the buffers written.
+ghost use Rattle.std.specs.Prelude.{◌≡◌, ◌≤◌, ◌&&◌, length, IfErr};
 ghost use Rattle.mc_error.specs.Error.{refusal_of};
 ghost use Rattle.mc_fields.specs.Lent.{string_fits};
+ghost use Rattle.mc_payload.specs.Record.{raw_of, lfe_of, excesses_of, excess_codes};
 ghost use Rattle.mc_payload.specs.Unpack.{loan_fits};
 ghost use Rattle.mc_loan.specs.Lent.{loan_with};
-ghost use Rattle.mc_codes.specs.Outcome.{outcome_of};
+ghost use Rattle.mc_codes.specs.Outcome.{codes_of, outcome_of};
 ghost use Rattle.mc_places.specs.PlacesBy.{places_of};
 ghost use Rattle.mc_unpack.specs.Answer.{after_of, room_fits, unpack_call};
-ghost use Rattle.mc_unpack.specs.Settled.{settled_of, Decided, Numbered};
+ghost use Rattle.mc_unpack.specs.Settled.{settled_of, Numbered};
+ghost use Rattle.mc_unpack.specs.Writable.{Writable};
 
+use bit_reader::BitString;
 use mc_allocations::allocations_fit;
 use mc_codes::{PayloadCodes, read_payload};
 use mc_config::McHeader;
 use mc_error::McError;
-use mc_fields::McStatus;
+use mc_fields::{LfeAllocation, McStatus};
 use mc_loan::Loan;
 use mc_payload::McSettings;
 use mc_places::{Places, places_of};
@@ -26,15 +29,30 @@ pub struct McPayload {
     pub codes: PayloadCodes,
 }
 
+impl McPayload {
+    // Writes the raw and LFE values of a payload that was read under s. Answers how many of its group codes have an excess.
+    pub fn write_samples(&self, s: &McSettings, raw: &mut [f64; 3456], lfe: &mut [f64; 12]) -> u32
+        requires { (self.now.places ≡ places_of s.now) × (s.now.lfe_allocation ≤ 15) × Writable s.now (codes_of self.now.codes) }
+        ensures { (raw.new ≡ raw_of s.now (codes_of self.now.codes)) × (lfe.new ≡ lfe_of s.now.lfe_allocation (codes_of self.now.codes)) × (result ≡ excess_codes (excesses_of s.now (codes_of self.now.codes))) }
+    {
+        let codes = &self.codes;
+        // Made here and in `read_mc_payload`: McSettings holds any number, as lent, and each of the two public functions requires that it fits.
+        let allocation = LfeAllocation {
+            value: s.lfe_allocation,
+        };
+        write_lfe(allocation, codes.lf_scalefactor, &codes.granules, lfe);
+        write_raw(&self.places.own, &codes.granules, raw)
+    }
+}
+
 // The allocations are tested, then the payload is read into `payload`, for the reason that `read_payload` names.
 pub fn read_mc_payload(
-    bytes: &[u8],
-    bits: usize,
+    string: BitString<'_>,
     s: &McSettings,
     payload: &mut McPayload,
 ) -> Result<(), McError>
     requires { s.now.lfe_allocation ≤ 15 }
-    ensures settled { outcome_of result payload.new.codes ≡ settled_of s.now bytes.now bits }
+    ensures settled { outcome_of result payload.new.codes ≡ settled_of s.now string.entry.bytes.now string.entry.bits }
     ensures places { payload.new.places ≡ places_of s.now }
 {
     let places = places_of(s);
@@ -43,10 +61,11 @@ pub fn read_mc_payload(
         return Err(McError::InvalidAllocation);
     }
     read_payload(
-        bytes,
-        bits,
+        string,
         s.header.multi_lingual_layer3,
-        s.lfe_allocation,
+        LfeAllocation {
+            value: s.lfe_allocation,
+        },
         &s.status.mc_prediction,
         &places.steps,
         &places.own,
@@ -54,34 +73,16 @@ pub fn read_mc_payload(
     )
 }
 
-// Whether all that is lent is as it has to be; the buffers come by their lengths.
-fn lent_fits(bytes: &[u8], bits: usize, loan: &Loan<'_>, raw_len: usize, lfe_len: usize) -> bool
-    ensures { let l = loan.now in result ≡ (room_fits raw_len lfe_len && (string_fits bytes.now bits && loan_fits l.reading l.rate l.base_channels l.lfe_allocation l.nb_steps.now l.base_nb_steps.now)) }
+// Whether all that is lent is as it has to be.
+fn lent_fits(string: BitString<'_>, loan: &Loan<'_>, raw: &[f64], lfe: &[f64]) -> bool
+    ensures { let l = loan.now in result ≡ (room_fits (length raw.now) (length lfe.now) && (string_fits string.entry.bytes.now string.entry.bits && loan_fits l.reading l.rate l.base_channels l.lfe_allocation l.nb_steps.now l.base_nb_steps.now)) }
 {
-    raw_len == 3456 && lfe_len == 12 && mc_fields::string_fits(bytes, bits) && loan.fits()
-}
-
-// Decides, with nothing written: the loan is tested, then the allocations, and then the payload is read.
-fn decide(
-    bytes: &[u8],
-    bits: usize,
-    loan: &Loan<'_>,
-    header: McHeader,
-    status: McStatus,
-    raw_len: usize,
-    lfe_len: usize,
-    payload: &mut McPayload,
-) -> Result<(), McError>
-    ensures { Decided (loan_with loan.now header status) bytes.now bits raw_len lfe_len result payload.new }
-{
-    if !lent_fits(bytes, bits, loan, raw_len, lfe_len) {
-        return Err(McError::InvalidArgument);
-    }
-    read_mc_payload(bytes, bits, &loan.settings(header, status), payload)
+    raw.len() == 3456 && lfe.len() == 12 && mc_fields::string_fits(string) && loan.fits()
 }
 
 // The bits that a payload uses, how many of its group codes have an excess, and the tables of the record. Delays and coefficients are
-// made of `predictors` by `delays` and `coefs`, which return arrays of arrays: these stand in no struct.
+// made of `predictors` by `delays` and `coefs`, which return arrays of arrays outside any struct, as the project asks of them (docs/PROOFS.md, "Forms
+// by place"). The codes of granules, 6,936 bytes, are left out: hence not `PayloadCodes` itself.
 #[derive(Clone, Copy)]
 pub struct Unpacked {
     pub payload_bits: usize,
@@ -94,39 +95,29 @@ pub struct Unpacked {
     pub excesses: [u16; 1152],
 }
 
-// Unpacks the payload in the first `bits` bits into `raw` and `lfe`. Both are as they were after any refusal.
+// Unpacks the payload in a string into `raw` and `lfe`. Both are as they were after any refusal. Header and status, here and in
+// `Loan::settings`, are not lent as McHead: it has the check word and the bits used too, which unpacking does not look at, and would ask
+// more of callers.
 pub fn unpack(
-    bytes: &[u8],
-    bits: usize,
+    string: BitString<'_>,
     loan: &Loan<'_>,
     header: McHeader,
     status: McStatus,
     raw: &mut [f64],
     lfe: &mut [f64],
 ) -> Result<Unpacked, McError>
-    ensures after { after_of result raw.new lfe.new ≡ unpack_call (loan_with loan.now header status) bytes.now bits raw.old lfe.old }
+    ensures after { after_of result raw.new lfe.new ≡ unpack_call (loan_with loan.now header status) string.entry.bytes.now string.entry.bits raw.old lfe.old }
     ensures numbered { IfErr result (λ e. Numbered (refusal_of e).number) }
 {
+    if !lent_fits(string, loan, raw, lfe) {
+        return Err(McError::InvalidArgument);
+    }
+    let s = loan.settings(header, status);
     let mut payload = McPayload::default();
-    decide(
-        bytes,
-        bits,
-        loan,
-        header,
-        status,
-        raw.len(),
-        lfe.len(),
-        &mut payload,
-    )?;
-    let places = &payload.places;
+    read_mc_payload(string, &s, &mut payload)?;
+    let raw = raw.as_mut_array().unwrap();
+    let excess_codes = payload.write_samples(&s, raw, lfe.as_mut_array().unwrap());
     let codes = &payload.codes;
-    let excess_codes = write_raw(&places.own, &codes.granules, raw);
-    write_lfe(
-        loan.lfe_allocation,
-        codes.lf_scalefactor,
-        &codes.granules,
-        lfe,
-    );
     Ok(Unpacked {
         payload_bits: codes.bits,
         excess_codes,
@@ -134,6 +125,6 @@ pub fn unpack(
         predictors: codes.predictors,
         lf_scalefactor: codes.lf_scalefactor,
         scalefactors: codes.scalefactors,
-        excesses: excesses(&places.own, &codes.granules),
+        excesses: excesses(&payload.places.own, &codes.granules),
     })
 }

@@ -1,19 +1,17 @@
 -- Values as the code makes them: what it needs of the codes, the stores of a place, and that the tables are those of the record.
-use Rattle.std.specs.Prelude.{◌≡◌, Bool, true, cond, List, [], ◌∷◌, T, length, set}
+use Rattle.std.specs.Prelude.{◌≡◌, Bool, true, cond, List, [], ◌∷◌, T}
 use Rattle.std.proofs.Math.Path.{refl}
-use Rattle.std.proofs.Common.{sym, subst, ◌∙◌, eq-or-lt_of_le, le_of_suc-le-suc, add-one, arith, pow_pos, get_or-set_same}
+use Rattle.std.proofs.Common.{sym, subst, arith, pow_pos}
 use Rattle.std.proofs.Math.Bool.{false}
-use Rattle.std.proofs.Math.Logic.{⊎_elim}
-use Prim.Native.Nat.{ℕ, zero, suc, ◌+◌, ◌*◌, ◌^◌, ◌≤◌, ◌<◌}
-use Rattle.std.proofs.Math.ListN.{get_or, length-set}
-use Rattle.std.proofs.Math.Seq.{get_or-set_other}
+use Prim.Native.Nat.{ℕ, zero, suc, ◌+◌, ◌^◌, ◌<◌}
+use Rattle.std.proofs.Math.ListN.{get_or}
 use Rattle.bitalloc.specs.Classes.{is_class, class_of, grouped, bits_per_sample}
 use Rattle.bitalloc.proofs.Rules.{steps-rules}
 use Rattle.bitalloc.proofs.Places.{class-steps}
 use Rattle.bitalloc.specs.declared.QuantClass.{QuantClass}
 use Rattle.requant.specs.Requant.{degrouped}
 use Rattle.requant.proofs.Digits.{digit-code}
-use Rattle.mc_values.specs.Values.{three_codes, first_at, spread, ValuesFit, PlaceFits}
+use Rattle.mc_values.specs.Values.{three_codes, first_at, ValuesFit, PlaceFits}
 
 -- ---- the codes of a place
 
@@ -47,35 +45,3 @@ module _ (n : ℕ) (granules : List ℕ) (i gr : ℕ) (c : is_class n ≡ true) 
         high = r.sample-high;
         codes = λ k. rw (class-steps n is) (codes-fit k);
       })
-
--- ---- stores 32 apart
-
-module _ {A : Type 0} (f : ℕ → A) (a : ℕ) where
-  pub length-spread : (n : ℕ) (d : List A) → length (spread f a n d) ≡ length d
-  unfolding spread
-  length-spread zero d = refl
-  length-spread (suc n) d = length-set (spread f a n d) (a + 32 * n) (f n) ∙ length-spread n d
-
-  pub spread_none : (d : List A) → d ≡ spread f a 0 d
-  unfolding spread
-  spread_none d = refl
-
-  pub spread-more : (n : ℕ) (d : List A) → set (spread f a n d) (a + 32 * n) (f n) ≡ spread f a (n + 1) d
-  unfolding spread
-  spread-more n d = rw (add-one n)
-
-  module _ (z : A) where
-    pub get_or-spread : (n : ℕ) (d : List A) (j : ℕ) → j < n → a + 32 * n ≤ length d + 31 → get_or (spread f a n d) (a + 32 * j) z ≡ f j
-    unfolding spread
-    get_or-spread zero d j h room = absurd (omega arith)
-    get_or-spread (suc n) d j h room =
-        ⊎_elim
-        (λ e. rw e (get_or-set_same (spread f a n d) (a + 32 * n) (f n) z (omega (arith, length-spread n d))))
-        (λ l. get_or-set_other (spread f a n d) (a + 32 * n) (a + 32 * j) (f n) z (λ e. absurd (omega arith)) ∙ get_or-spread n d j l (omega arith))
-        (eq-or-lt_of_le (le_of_suc-le-suc h))
-
-    pub get_or-kept : (n : ℕ) (d : List A) (k : ℕ) → ((j : ℕ) → j < n → k ≡ a + 32 * j → ⊥) → get_or (spread f a n d) k z ≡ get_or d k z
-    unfolding spread
-    get_or-kept zero d k h = refl
-    get_or-kept (suc n) d k h =
-        get_or-set_other (spread f a n d) (a + 32 * n) k (f n) z (h n (omega arith)) ∙ get_or-kept n d k (λ j l. h j (omega arith))

@@ -1,5 +1,5 @@
 -- The record's values as the code makes them, each by the tables of codes and step counts that it needs.
-use Rattle.std.specs.Prelude.{◌≡◌, Bool, false, cond, List, [], ◌∷◌, ℕ, zero, suc, ◌+◌, ◌*◌, ◌/◌, ◌%◌, ◌^◌, ◌≤◌, ◌<◌, eqb, ltb, get_or, set, Float}
+use Rattle.std.specs.Prelude.{◌≡◌, Bool, false, cond, List, [], ◌∷◌, ℕ, ◌+◌, ◌*◌, ◌/◌, ◌%◌, ◌^◌, ◌≤◌, ◌<◌, eqb, ltb, get_or, Float}
 use Rattle.std.specs.Float.{nan}
 use Rattle.fill.specs.Tab.{tab}
 use Rattle.floats.specs.Binary64.{zero64}
@@ -81,11 +81,6 @@ lfe_by lfe factor code = cond (eqb lfe 0) zero64 (lfe_sample_of lfe factor code)
 
 unfoldable pub lfe_from : ℕ → ℕ → List ℕ → List Float
 lfe_from lfe factor granules = tab (λ gr. lfe_by lfe factor (get_or granules (289 * gr) 0)) 12
-
--- d with f 0, .., f (n - 1) from a on, 32 apart, as the slots of a channel's subband lie
-unfoldable pub spread : {A : Type 0} → (ℕ → A) → ℕ → ℕ → List A → List A
-spread f a zero d = d
-spread f a (suc n) d = set (spread f a n d) (a + 32 * n) (f n)
 
 -- ---- what the codes have to be for their values
 

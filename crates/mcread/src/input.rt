@@ -40,7 +40,8 @@ fn read_whole(input: &mut impl Read, buf: &mut [u8], cut: BadFile) -> Result<(),
     Ok(())
 }
 
-// Carries the state where the frame asks for it, and prints that.
+// Carries the state where the frame asks for it, and prints that. What is printed to, the state and the frame's number go from function to function
+// by themselves: no function here works on all that `run` has, as the methods of `Replay` of replay do.
 fn before_frame(out: &mut Out<impl Print>, state: &mut McDecodeState, number: u64, frame: Frame)
     ensures { state.new ≡ before_frame frame.numbers state.old }
 {
@@ -97,7 +98,7 @@ fn read_frame(
     Ok(decode_frame(out, state, number, Body { frame, bytes }))
 }
 
-// One desk more that frames name; above 7 there is none. By an `if`: with `get_mut`, which was tried, the proof did not close.
+// One desk more that frames name; above 7 there is none. By an `if`: after `get_mut`, which was tried, a proof is told nothing of the array, and it did not close.
 fn mark(desks: &mut [bool; 8], desk: u32)
     ensures { desks.new ≡ marked_of desks.old desk }
 {
@@ -107,7 +108,7 @@ fn mark(desks: &mut [bool; 8], desk: u32)
     }
 }
 
-// Reads all frames, and sees that nothing follows.
+// Reads all frames; bytes after the last one are a fault.
 fn read_frames(
     input: &mut impl Read,
     out: &mut Out<impl Print>,

@@ -1,7 +1,8 @@
-// What is said of frames; the numbers and words in it are made by the functions of the other crates.
+// What is said of frames; the numbers and words in it are made by the functions of the other crates. The functions `put_..` write a line to what is lent to print:
+// a type with a `Display` for each would hold the parameters that the function has.
 use frame_body::Body;
 use frame_summary::{Decimal, summary_of};
-use frame_text::{name_of, words_of};
+use frame_text::name_of;
 use mc_error::McError;
 use mc_state::Accepted;
 use program_out::Out;
@@ -68,7 +69,7 @@ struct Refusal(McError);
 
 impl fmt::Display for Refusal {
     fn fmt<W: fmt::Write>(&self, f: &mut fmt::Formatter<W>) -> fmt::Result {
-        write!(f, "{}, {}", self.0.number(), words_of(self.0))?;
+        write!(f, "{}, {}", self.0.number(), self.0)?;
         if let McError::ForbiddenDynCrossMode { sbgr, mode } = self.0 {
             write!(f, " (group {sbgr}, code {mode})")?;
         }
@@ -121,7 +122,7 @@ pub fn put_totals(out: &mut Out<impl Print>, accepted: u32, refused: u32) {
     );
 }
 
-// The tally of each desk that frames name.
+// The tally of each desk that frames name. Two lists side by side: the tallies are the state's, and which desks are named is what was read.
 pub fn put_tallies(out: &mut Out<impl Print>, desks: [bool; 8], tallies: [u32; 8]) {
     for (desk, (named, tally)) in desks.iter().zip(&tallies).enumerate() {
         if *named {

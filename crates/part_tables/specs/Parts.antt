@@ -1,6 +1,7 @@
 -- What the exported head reading answers, and what it writes: one byte for each field, in the order of the wire. Definitions only.
-use Rattle.std.specs.Prelude.{Bool, cond, List, [], ◌∷◌, ℕ, ◌+◌, ◌*◌, ◌-◌, ◌/◌, ◌%◌, eqb, ltb, get_or}
-use Rattle.bits.specs.Syntax.{Refusal, Outcome, accepted, refused, plain}
+use Rattle.std.specs.Prelude.{Bool, cond, List, [], ◌∷◌, ℕ, ◌*◌, ◌-◌, ◌/◌, ◌%◌, eqb, ltb, get_or}
+use Rattle.bits.specs.Syntax.{Outcome, accepted, refused, plain}
+use Rattle.mc_error.specs.Error.{packed_refusal}
 use Rattle.fill.specs.Tab.{tab}
 use Rattle.mc_config.specs.declared.McHeader.{McHeader}
 use Rattle.mc_fields.specs.Lent.{head_of}
@@ -49,10 +50,6 @@ Head = Outcome (McHeader × (ℕ × McStatus))
 -- room for other than 110 bytes is a wrong loan, refusal 6
 unfoldable pub head_for : ℕ → List ℕ → ℕ → ℕ → ℕ → Head
 head_for reading bytes bits base_channels room = cond (eqb room 110) (head_of reading bytes bits base_channels) (refused (plain 6))
-
--- the low 8 bits are the refusal's number, the next 24 the group, the rest the code
-abbrev pub packed_refusal : Refusal → ℕ
-packed_refusal x = x.number + x.group % 16777216 * 256 + x.code * 4294967296
 
 -- a refusal; or number 0 with the used bits in the place of the group
 abbrev pub packed_head : Head → ℕ

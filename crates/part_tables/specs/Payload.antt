@@ -8,7 +8,8 @@ use Rattle.mc_payload.specs.Unpack.{loan_by, loan_fits, settings_of, unpack_of}
 use Rattle.mc_payload.specs.Payload.{Codes}
 use Rattle.mc_payload.specs.Record.{lf_scalefactor_of, record_of, excess_codes}
 use Rattle.mc_payload.specs.declared.McSettings.{McSettings}
-use Rattle.part_tables.specs.Parts.{Head, packed_refusal}
+use Rattle.mc_error.specs.Error.{packed_refusal}
+use Rattle.part_tables.specs.Parts.{Head}
 
 -- what the call is lent, beside the buffers
 pub record Lent : Type 0 where

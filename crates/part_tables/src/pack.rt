@@ -2,58 +2,71 @@
 ghost use Rattle.std.specs.Prelude.{◌≡◌, length, Ok};
 ghost use Rattle.mc_unpack.specs.Answer.{answered};
 ghost use Rattle.mc_values.specs.Values.{delays_from, coefs_from};
-ghost use Rattle.part_tables.specs.Payload.{flat_delays, flat_coefs};
-ghost use Rattle.part_tables.specs.PayloadCode.{scfsi_after, delays_after, coefs_after, scalefactors_after, excesses_after, packed_tables};
+ghost use Rattle.part_tables.specs.Payload.{room_fits, flat_delays, flat_coefs};
+ghost use Rattle.part_tables.specs.PayloadCode.{buffers_now, SameSlices, tables_after, packed_tables};
 
-use crate::pack_refusal;
 use mc_error::McError;
 use mc_unpack::Unpacked;
 
-// The delays of all predictors, by group.
-fn write_delays(codes: &[u8; 192], out: &mut [u8])
-    requires { length out.old ≡ 48 }
-    ensures { out.new ≡ flat_delays (delays_from codes.now) }
+// The buffers of a record.
+#[derive(Drop)]
+pub struct Buffers<'a> {
+    pub scfsi: &'a mut [u8],
+    pub delays: &'a mut [u8],
+    pub coefs: &'a mut [f64],
+    pub scalefactors: &'a mut [u8],
+    pub excesses: &'a mut [u16],
+    pub raw: &'a mut [f64],
+    pub lfe: &'a mut [f64],
+}
+
+// The delays of all predictors, by group. By place, as the definitions of these tables go: coefficients by `as_flattened` would take it twice, and a
+// promise would take the places apart again.
+fn flat_delays(codes: &[u8; 192]) -> [u8; 48]
+    ensures { result ≡ flat_delays (delays_from codes.now) }
 {
     let delays = mc_values::delays(codes);
-    for (k, delay) in out.iter_mut().enumerate() {
-        *delay = delays[k / 6][k % 6];
-    }
+    std::array::from_fn(|k| delays[k / 6][k % 6])
 }
 
 // Their coefficients.
-fn write_coefs(predsi: &[u8; 56], codes: &[u8; 192], out: &mut [f64])
-    requires { length out.old ≡ 144 }
-    ensures { out.new ≡ flat_coefs (coefs_from predsi.now codes.now) }
+fn flat_coefs(predsi: &[u8; 56], codes: &[u8; 192]) -> [f64; 144]
+    ensures { result ≡ flat_coefs (coefs_from predsi.now codes.now) }
 {
     let coefs = mc_values::coefs(predsi, codes);
-    for (k, coef) in out.iter_mut().enumerate() {
-        *coef = coefs[k / 18][k / 3 % 6][k % 3];
+    std::array::from_fn(|k| coefs[k / 18][k / 3 % 6][k % 3])
+}
+
+impl Buffers<'_> {
+    // Whether each is as long as what it is for.
+    pub fn fit(&self) -> bool
+        ensures { let w = buffers_now self.now in result ≡ room_fits (length w.scfsi) (length w.delays) (length w.coefs) (length w.scalefactors) (length w.excesses) (length w.raw) (length w.lfe) }
+    {
+        self.scfsi.len() == 96
+            && self.delays.len() == 48
+            && self.coefs.len() == 144
+            && self.scalefactors.len() == 288
+            && self.excesses.len() == 1152
+            && self.raw.len() == 3456
+            && self.lfe.len() == 12
+    }
+
+    // Writes the tables of an accepted payload.
+    pub fn write_tables(&mut self, u: &Unpacked, predsi: &[u8; 56])
+        requires { let w = buffers_now self.old in (length w.scfsi ≡ 96) × (length w.delays ≡ 48) × (length w.coefs ≡ 144) × (length w.scalefactors ≡ 288) × (length w.excesses ≡ 1152) }
+        ensures same_slices { SameSlices self.old self.new }
+        ensures tables { buffers_now self.new ≡ tables_after predsi.now (answered (Ok u.now)) (buffers_now self.old) }
+    {
+        self.scfsi.copy_from_slice(&u.scfsi);
+        self.delays.copy_from_slice(&flat_delays(&u.predictors));
+        self.coefs
+            .copy_from_slice(&flat_coefs(predsi, &u.predictors));
+        self.scalefactors.copy_from_slice(&u.scalefactors);
+        self.excesses.copy_from_slice(&u.excesses);
     }
 }
 
-// Writes the tables of an accepted payload, and nothing of a refused one.
-pub fn write_tables(
-    unpacked: &Result<Unpacked, McError>,
-    predsi: &[u8; 56],
-    scfsi: &mut [u8],
-    delays: &mut [u8],
-    coefs: &mut [f64],
-    scalefactors: &mut [u8],
-    excesses: &mut [u16],
-)
-    requires { (length scfsi.old ≡ 96) × (length delays.old ≡ 48) × (length coefs.old ≡ 144) × (length scalefactors.old ≡ 288) × (length excesses.old ≡ 1152) }
-    ensures { let a = answered unpacked.now in (scfsi.new ≡ scfsi_after a scfsi.old) × (delays.new ≡ delays_after a delays.old) × (coefs.new ≡ coefs_after predsi.now a coefs.old) × (scalefactors.new ≡ scalefactors_after a scalefactors.old) × (excesses.new ≡ excesses_after a excesses.old) }
-{
-    if let Ok(u) = unpacked {
-        scfsi.copy_from_slice(&u.scfsi);
-        write_delays(&u.predictors, delays);
-        write_coefs(predsi, &u.predictors, coefs);
-        scalefactors.copy_from_slice(&u.scalefactors);
-        excesses.copy_from_slice(&u.excesses);
-    }
-}
-
-// An accepted payload's answer as one number.
+// An accepted payload's answer as one number. It has a function of its own: of fields that a match binds behind a reference a proof has no ranges.
 fn pack_accepted(u: &Unpacked) -> u64
     ensures { result ≡ packed_tables (answered (Ok u.now)) }
 {
@@ -62,12 +75,12 @@ fn pack_accepted(u: &Unpacked) -> u64
         + u64::from(u.excess_codes % 16777216) * 1099511627776
 }
 
-// The answer as one number.
+// The answer as one number. No `From`: neither `Result` nor `u64` is this crate's.
 pub fn pack_tables(unpacked: &Result<Unpacked, McError>) -> u64
     ensures { result ≡ packed_tables (answered unpacked.now) }
 {
     match unpacked {
         Ok(u) => pack_accepted(u),
-        Err(e) => pack_refusal(*e),
+        Err(e) => e.packed(),
     }
 }

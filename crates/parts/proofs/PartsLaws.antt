@@ -5,13 +5,13 @@ use mir.Val.{bool_byte}
 use Rattle.bits.specs.Syntax.{refused, plain}
 use Rattle.fill.specs.Tab.{tab}
 use Rattle.mc_config.specs.declared.McHeader.{McHeader}
-use Rattle.mc_error.specs.Error.{refusal_of}
+use Rattle.mc_error.specs.Error.{refusal_of, packed_refusal}
 use Rattle.mc_error.specs.declared.McError.{McError}
 use Rattle.mc_head.specs.Answer.{outcome_of}
 use Rattle.mc_fields.specs.Lent.{head_of}
 use Rattle.mc_head.specs.declared.McHead.{McHead}
 use Rattle.mc_fields.specs.declared.McStatus.{McStatus}
-use Rattle.part_tables.specs.Parts.{Head, flag, first_bytes, byte_of, head_byte, head_for, packed_refusal, packed_head, bytes_after}
+use Rattle.part_tables.specs.Parts.{Head, flag, first_bytes, byte_of, head_byte, head_for, packed_head, bytes_after}
 
 flag-byte : (b : Bool) → bool_byte b ≡ flag b
 flag-byte true = refl
@@ -69,8 +69,8 @@ module _ (reading : ℕ) (bytes : List ℕ) (bits base room : ℕ) where
   head-wrong h = simp (ne_eqb _ _ h)
 
   -- room for other than 110 bytes
-  pub wrong-room : (room ≡ 110 → ⊥) → (old : List ℕ) → (6 ≡ packed_head (head_for reading bytes bits base room)) × (old ≡ bytes_after (head_for reading bytes bits base room) old)
-  wrong-room h old = let e = head-wrong h in (rw e, rw e)
+  pub wrong-room : (room ≡ 110 → ⊥) → (n : ℕ) → n ≡ packed_refusal (plain 6) → (old : List ℕ) → (n ≡ packed_head (head_for reading bytes bits base room)) × (old ≡ bytes_after (head_for reading bytes bits base room) old)
+  wrong-room h n en old = let e = head-wrong h in (rw e en, rw e)
 
   -- room for 110 bytes
   pub right-room : room ≡ 110 → (r : Result McHead McError) → outcome_of r ≡ head_of reading bytes bits base → (n : ℕ) → n ≡ packed_head (outcome_of r) → (old out : List ℕ) → out ≡ bytes_after (outcome_of r) old

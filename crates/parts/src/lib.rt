@@ -3,12 +3,12 @@
 
 ghost use Rattle.std.specs.Prelude.{◌≡◌, ◌<◌, length};
 ghost use Rattle.fill.specs.Tab.{tab};
-ghost use Rattle.part_tables.specs.Parts.{first_bytes, byte_of, head_byte, head_for, packed_head, bytes_after};
+ghost use Rattle.part_tables.specs.Parts.{flag, first_bytes, byte_of, head_byte, head_for, packed_head, bytes_after};
 
-use mc_config::McHeader;
+use bit_reader::BitString;
+use mc_error::McError;
 use mc_fields::McStatus;
-use mc_head::read_head;
-use part_tables::pack_refusal;
+use mc_head::{McHead, read_head};
 
 mod unpack;
 
@@ -16,9 +16,12 @@ mod unpack;
 pub const HEAD_BYTES: usize = 110;
 
 // The fields before tc_allocation.
-fn first_bytes(header: McHeader, word: u16, status: McStatus) -> [u8; 17]
-    ensures { result ≡ first_bytes header word status }
+fn first_bytes(head: &McHead) -> [u8; 17]
+    ensures { result ≡ first_bytes head.now.header head.now.check_word head.now.status }
 {
+    let header = head.header;
+    let word = head.check_word;
+    let status = &head.status;
     [
         u8::from(header.ext_bit_stream_present),
         header.n_ad_bytes,
@@ -32,6 +35,7 @@ fn first_bytes(header: McHeader, word: u16, status: McStatus) -> [u8; 17]
         u8::from(header.multi_lingual_layer3),
         u8::from(header.copyright_identification_bit),
         u8::from(header.copyright_identification_start),
+        // as the definition has them; of `to_be_bytes` the first is word / 256 % 256
         (word / 256) as u8,
         (word % 256) as u8,
         u8::from(status.tc_sbgr_select),
@@ -41,46 +45,30 @@ fn first_bytes(header: McHeader, word: u16, status: McStatus) -> [u8; 17]
 }
 
 // Byte k of a head's fields.
-fn byte_of(
-    first: &[u8; 17],
-    tc: &[u8; 12],
-    lr: u8,
-    cross: &[u8; 24],
-    prediction: &[u8; 56],
-    k: usize,
-) -> u8
+fn byte_of(first: &[u8; 17], status: &McStatus, k: usize) -> u8
     requires { k < 110 }
-    ensures { result ≡ byte_of first.now tc.now lr cross.now prediction.now k }
+    ensures { let s = status.now in result ≡ byte_of first.now s.tc_allocation (flag s.dyn_cross_lr) s.dyn_cross s.mc_prediction k }
 {
     match k {
         0..17 => first[k],
-        17..29 => tc[k - 17],
-        29 => lr,
-        30..54 => cross[k - 30],
-        _ => prediction[k - 54],
+        17..29 => status.tc_allocation[k - 17],
+        29 => u8::from(status.dyn_cross_lr),
+        30..54 => status.dyn_cross[k - 30],
+        _ => status.mc_prediction[k - 54],
     }
 }
 
-// Writes a head's fields.
-fn write_fields(header: McHeader, word: u16, status: McStatus, out: &mut [u8])
-    requires { length out.old ≡ 110 }
-    ensures { out.new ≡ tab (head_byte header word status) 110 }
+// A head's fields.
+fn head_bytes(head: &McHead) -> [u8; HEAD_BYTES]
+    ensures { let h = head.now in result ≡ tab (head_byte h.header h.check_word h.status) 110 }
 {
-    let first = first_bytes(header, word, status);
-    let lr = u8::from(status.dyn_cross_lr);
-    for (k, byte) in out.iter_mut().enumerate() {
-        *byte = byte_of(
-            &first,
-            &status.tc_allocation,
-            lr,
-            &status.dyn_cross,
-            &status.mc_prediction,
-            k,
-        );
-    }
+    let first = first_bytes(head);
+    let status = &head.status;
+    std::array::from_fn(|k| byte_of(&first, status, k))
 }
 
-// Reads the head in the first `bits` bits and writes its fields; nothing after a refusal. The answer is one number.
+// Reads the head in the first `bits` bits and writes its fields; nothing after a refusal. The answer is one number. C lends what
+// is read one by one.
 #[unsafe(no_mangle)]
 pub extern "C" fn mc_part_head(
     bytes: &[u8],
@@ -92,13 +80,13 @@ pub extern "C" fn mc_part_head(
     ensures { (result ≡ packed_head (head_for reading bytes.now bits base_channels (length out.old))) × (out.new ≡ bytes_after (head_for reading bytes.now bits base_channels (length out.old)) out.old) }
 {
     if out.len() != HEAD_BYTES {
-        return 6;
+        return McError::InvalidArgument.packed();
     }
-    match read_head(bytes, bits, reading, base_channels) {
+    match read_head(BitString { bytes, bits }, reading, base_channels) {
         Ok(head) => {
-            write_fields(head.header, head.check_word, head.status, out);
+            out.copy_from_slice(&head_bytes(&head));
             (head.used % 16777216) as u64 * 256
         }
-        Err(e) => pack_refusal(e),
+        Err(e) => e.packed(),
     }
 }

@@ -1,94 +1,58 @@
-// Unpacking a payload under its head, for other languages. The function takes any input.
-ghost use Rattle.std.specs.Prelude.{◌≡◌, length};
-ghost use Rattle.mc_loan.specs.Lent.{loan_with};
-ghost use Rattle.mc_payload.specs.Unpack.{settings_of, unpack_of};
-ghost use Rattle.part_tables.specs.Payload.{lent_of, buffers_from, after_by, room_fits, lent_by, left_by, part_of};
+// Unpacking a payload under its head, for other languages. The function for C takes any input.
+ghost use Rattle.std.specs.Prelude.{◌≡◌};
+ghost use Rattle.mc_unpack.specs.Answer.{answered};
+ghost use Rattle.part_tables.specs.Payload.{lent_of, buffers_from, after_by, lent_fits, part_of};
+ghost use Rattle.part_tables.specs.PayloadCode.{buffers_now, SameSlices, packed_tables};
 
-use mc_config::McHeader;
+use bit_reader::BitString;
 use mc_error::McError;
-use mc_fields::{McStatus, string_fits};
+use mc_fields::string_fits;
 use mc_head::read_head;
 use mc_loan::Loan;
-use mc_unpack::unpack;
-use part_tables::{pack_refusal, pack_tables, write_tables};
+use mc_unpack::{Unpacked, unpack};
+use part_tables::{Buffers, pack_tables};
 
-fn room_fits(
-    scfsi: usize,
-    delays: usize,
-    coefs: usize,
-    scalefactors: usize,
-    excesses: usize,
-    raw: usize,
-    lfe: usize,
-) -> bool
-    ensures { result ≡ room_fits scfsi delays coefs scalefactors excesses raw lfe }
-{
-    scfsi == 96
-        && delays == 48
-        && coefs == 144
-        && scalefactors == 288
-        && excesses == 1152
-        && raw == 3456
-        && lfe == 12
-}
-
-// Whether all that is lent is as it has to be (refusal 6); the buffers come by their lengths.
+// Whether all that is lent is as it has to be (refusal 6).
 #[tactic(auto, unfolding(part_tables::specs::Payload::lent_by))]
 fn lent_fits(
-    head: &[u8],
-    head_bits: usize,
-    payload: &[u8],
-    payload_bits: usize,
+    head: BitString<'_>,
+    payload: BitString<'_>,
     loan: &Loan<'_>,
-    scfsi: usize,
-    delays: usize,
-    coefs: usize,
-    scalefactors: usize,
-    excesses: usize,
-    raw: usize,
-    lfe: usize,
+    buffers: &Buffers<'_>,
 ) -> bool
-    ensures { let l = loan.now in result ≡ lent_by (lent_of head.now head_bits payload.now payload_bits l.reading l.rate l.base_channels l.lfe_allocation l.nb_steps.now l.base_nb_steps.now) scfsi delays coefs scalefactors excesses raw lfe }
+    ensures { let l = loan.now in result ≡ lent_fits (lent_of head.entry.bytes.now head.entry.bits payload.entry.bytes.now payload.entry.bits l.reading l.rate l.base_channels l.lfe_allocation l.nb_steps.now l.base_nb_steps.now) (buffers_now buffers.now) }
 {
-    string_fits(head, head_bits)
-        && string_fits(payload, payload_bits)
-        && loan.fits()
-        && room_fits(scfsi, delays, coefs, scalefactors, excesses, raw, lfe)
-}
-
-// Unpacks under a head that was read. The buffers stay apart, as C lends them.
-fn unpack_under(
-    header: McHeader,
-    status: McStatus,
-    payload: &[u8],
-    payload_bits: usize,
-    loan: &Loan<'_>,
-    scfsi: &mut [u8],
-    delays: &mut [u8],
-    coefs: &mut [f64],
-    scalefactors: &mut [u8],
-    excesses: &mut [u16],
-    raw: &mut [f64],
-    lfe: &mut [f64],
-) -> u64
-    requires { (length scfsi.old ≡ 96) × (length delays.old ≡ 48) × (length coefs.old ≡ 144) × (length scalefactors.old ≡ 288) × (length excesses.old ≡ 1152) × (length raw.old ≡ 3456) × (length lfe.old ≡ 12) }
-    ensures { after_by result (buffers_from scfsi.new delays.new coefs.new scalefactors.new excesses.new raw.new lfe.new) ≡ left_by (settings_of (loan_with loan.now header status)) (buffers_from scfsi.old delays.old coefs.old scalefactors.old excesses.old raw.old lfe.old) (unpack_of (loan_with loan.now header status) payload.now payload_bits) }
-{
-    let unpacked = unpack(payload, payload_bits, loan, header, status, raw, lfe);
-    let predsi = &status.mc_prediction;
-    write_tables(
-        &unpacked,
-        predsi,
-        scfsi,
-        delays,
-        coefs,
-        scalefactors,
-        excesses,
-    );
-    pack_tables(&unpacked)
+    string_fits(head) && string_fits(payload) && loan.fits() && buffers.fit()
 }
 
 // Reads the head, then unpacks the payload under it into the buffers of the record. After a refusal all are as they were.
+fn unpack_part(
+    head: BitString<'_>,
+    payload: BitString<'_>,
+    loan: &Loan<'_>,
+    buffers: &mut Buffers<'_>,
+) -> Result<Unpacked, McError>
+    ensures same_slices { SameSlices buffers.old buffers.new }
+    ensures part { let l = loan.now in after_by (packed_tables (answered result)) (buffers_now buffers.new) ≡ part_of (lent_of head.entry.bytes.now head.entry.bits payload.entry.bytes.now payload.entry.bits l.reading l.rate l.base_channels l.lfe_allocation l.nb_steps.now l.base_nb_steps.now) (buffers_now buffers.old) }
+{
+    if !lent_fits(head, payload, loan, buffers) {
+        return Err(McError::InvalidArgument);
+    }
+    let head = read_head(head, loan.reading, loan.base_channels)?;
+    let raw = &mut *buffers.raw;
+    let unpacked = unpack(
+        payload,
+        loan,
+        head.header,
+        head.status,
+        raw,
+        &mut *buffers.lfe,
+    )?;
+    buffers.write_tables(&unpacked, &head.status.mc_prediction);
+    Ok(unpacked)
+}
+
+// The answer is one number. C lends what is lent one by one: hence the long list.
 #[unsafe(no_mangle)]
 pub extern "C" fn mc_part_unpack(
     head: &[u8],
@@ -111,6 +75,14 @@ pub extern "C" fn mc_part_unpack(
 ) -> u64
     ensures { after_by result (buffers_from scfsi.new delays.new coefs.new scalefactors.new excesses.new raw.new lfe.new) ≡ part_of (lent_of head.now head_bits payload.now payload_bits reading rate base_channels lfe_allocation nb_steps.now base_nb_steps.now) (buffers_from scfsi.old delays.old coefs.old scalefactors.old excesses.old raw.old lfe.old) }
 {
+    let head = BitString {
+        bytes: head,
+        bits: head_bits,
+    };
+    let payload = BitString {
+        bytes: payload,
+        bits: payload_bits,
+    };
     let loan = Loan {
         reading,
         rate,
@@ -119,37 +91,15 @@ pub extern "C" fn mc_part_unpack(
         nb_steps,
         base_nb_steps,
     };
-    if !lent_fits(
-        head,
-        head_bits,
-        payload,
-        payload_bits,
-        &loan,
-        scfsi.len(),
-        delays.len(),
-        coefs.len(),
-        scalefactors.len(),
-        excesses.len(),
-        raw.len(),
-        lfe.len(),
-    ) {
-        return pack_refusal(McError::InvalidArgument);
-    }
-    match read_head(head, head_bits, reading, base_channels) {
-        Err(e) => pack_refusal(e),
-        Ok(first) => unpack_under(
-            first.header,
-            first.status,
-            payload,
-            payload_bits,
-            &loan,
-            scfsi,
-            delays,
-            coefs,
-            scalefactors,
-            excesses,
-            raw,
-            lfe,
-        ),
-    }
+    let mut buffers = Buffers {
+        scfsi,
+        delays,
+        coefs,
+        scalefactors,
+        excesses,
+        raw,
+        lfe,
+    };
+    let unpacked = unpack_part(head, payload, &loan, &mut buffers);
+    pack_tables(&unpacked)
 }

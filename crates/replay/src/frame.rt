@@ -4,12 +4,12 @@ ghost use Rattle.mc_state.specs.Answer.{buffers_now, SameSlices, after_by};
 ghost use Rattle.mc_state.specs.Frame.{frame_of};
 ghost use Rattle.replay_list.specs.Opening.{second_lent, lent_values, start_of, lent_in};
 
-use encoding::number_at;
+use encoding::{number_at, u8_at, u32_at};
 use mc_base::{Base, Stereo};
 use mc_decode::decode_mc_frame;
 use mc_error::McError;
-use mc_state::{Accepted, BitString, Buffers, Lent, McDecodeState};
-use replay_list::{byte_at, fill_steps, lend_values, number32_at, second_lent, start};
+use mc_state::{Accepted, BitString, Buffers, Lent, Loan, McDecodeState};
+use replay_list::{fill_steps, lend_values, second_lent, start};
 
 // Fills both channels of a base with values, of the second as many as are lent.
 fn lend_both(dst: &mut Stereo<[f64; 1152]>, opening: &[u8], before: usize, first: usize)
@@ -61,10 +61,15 @@ pub fn replay_frame(
             bytes: payload,
             bits: number_at(opening, 8, 4) as usize,
         },
-        reading: number32_at(opening, 88),
-        desk: number32_at(opening, 92),
-        rate: number32_at(opening, 12),
-        base_channels: byte_at(opening, 16),
+        loan: Loan {
+            reading: u32_at(opening, 88),
+            rate: u32_at(opening, 12),
+            base_channels: u8_at(opening, 16),
+            lfe_allocation: u8_at(opening, 18),
+            nb_steps: &steps,
+            base_nb_steps: &base_steps[..base_count],
+        },
+        desk: u32_at(opening, 92),
         base: Base {
             raw: Stereo {
                 left: &raw.left,
@@ -75,9 +80,6 @@ pub fn replay_frame(
                 right: &scaled.right[..second],
             },
         },
-        base_nb_steps: &base_steps[..base_count],
-        lfe_allocation: byte_at(opening, 18),
-        nb_steps: &steps,
     };
     decode_mc_frame(state, &lent, buffers)
 }

@@ -11,7 +11,9 @@ use encoding::number_at;
 use frame::replay_frame;
 use mc_error::McError;
 use mc_state::{Accepted, Buffers, McDecodeState};
-use replay_list::{Tally, compare, hashed_values, lent_bytes, listed, reached, tallied};
+use replay_list::{
+    Left, Outcome, Tally, compare, hashed_values, lent_bytes, listed, reached, tallied,
+};
 use std::io;
 use std::io::{ErrorKind, Input, Read};
 
@@ -30,17 +32,18 @@ fn is_cut(e: &io::Error) -> bool {
 // Reads a frame: its opening, its head and its payload.
 fn read_frame(
     rt: &impl Input,
-    opening: &mut [u8; 4096],
+    opening: &mut [u8; 256],
     head: &mut [u8; 65536],
     payload: &mut [u8; 65536],
 ) -> io::Result<()> {
-    rt.reader().read_exact(&mut opening[..256])?;
+    rt.reader().read_exact(opening)?;
     rt.reader().read_exact(&mut head[..64])?;
     let blocks = number_at(opening, 28, 4);
     // longer than any payload
     if 129 < blocks {
         return Err(ErrorKind::UnexpectedEof.into());
     }
+    // by `as`: `usize` has no `From<u64>`
     rt.reader().read_exact(&mut payload[..blocks as usize * 64])
 }
 
@@ -53,6 +56,17 @@ struct Replay<'a> {
 }
 
 impl Replay<'_> {
+    // The outcome that a frame reached, and how many values its hashes are of.
+    fn reached(&self, answer: Result<Accepted, McError>) -> (Outcome, u64) {
+        let left = Left {
+            raw: self.buffers.raw,
+            work: self.buffers.work,
+            output: self.buffers.output,
+            lfe: self.buffers.lfe,
+        };
+        (reached(answer, &self.state, left), hashed_values(left))
+    }
+
     // Compares what a frame left with what the list says, prints each difference and counts the frame.
     fn compare(
         &mut self,
@@ -60,17 +74,17 @@ impl Replay<'_> {
         opening: &[u8],
         answer: Result<Accepted, McError>,
     ) -> io::Result<()> {
-        let found = reached(answer, &self.state, &self.buffers);
+        let (found, values) = self.reached(answer);
         let wanted = listed(opening);
         report::differing(rt, self.tally.frames, compare(found, wanted))?;
-        let values = hashed_values(&self.buffers);
         self.tally = tallied(self.tally, found.answer, values, found != wanted);
         Ok(())
     }
 
     // Reads the next frame of the list, runs it and compares.
     fn next_frame(&mut self, rt: &(impl Input + Print)) -> io::Result<()> {
-        let mut opening = [0u8; 4096];
+        let mut opening = [0u8; 256];
+        // as many bytes as two bytes of the opening can ask for; those that are not in the list are 0
         let mut head = [0u8; 65536];
         let mut payload = [0u8; 65536];
         read_frame(rt, &mut opening, &mut head, &mut payload)?;

@@ -1,14 +1,18 @@
 -- Laws of drawn and wild values, one step each.
-use Rattle.std.specs.Prelude.{◌≡◌, ℕ, zero, suc, ◌+◌, ◌<◌, ◌≤◌, true, false, List, [], ◌∷◌, length, pos, ◌≢◌, slice_set, Float}
+use Rattle.std.specs.Prelude.{◌≡◌, ℕ, zero, suc, ◌+◌, ◌-◌, ◌/◌, ◌%◌, ◌<◌, ◌≤◌, true, false, List, [], ◌∷◌, length, pos, ◌≢◌, slice_set, Float}
 use Rattle.std.proofs.Math.Path.{refl, ap}
-use Rattle.std.proofs.Common.{◌∙◌}
+use Rattle.std.proofs.Common.{◌∙◌, add-one}
 use native.Mathlib.Omega.{arith}
-use borrow.Author.Tests.{ne_eqb}
+use borrow.Author.Tests.{eq-eqb, ne_eqb, lt-ltb, le-ltb}
 use Rattle.std.specs.Float.{nan, inf, binary64}
-use Rattle.std.specs.Float.Ieee.{of_int, of_bits}
+use Rattle.std.specs.Float.Ieee.{of_int, of_bits, div, neg}
 use Rattle.std.specs.List.{fold}
 use Rattle.fill.proofs.InOrder.{Filling, starts, more, ends-all}
-use Rattle.replay_list.specs.Values.{drawn, drawn_to, value_of, values_after, wild_of}
+use Rattle.replay_list.specs.Values.{drawn, drawn_to, fraction_of, magnitude_of, value_of, values_after, wild_of, with_wild}
+
+pub draw-more : (k x : ℕ) → drawn_to (k + 1) x ≡ drawn (drawn_to k x)
+unfolding drawn_to
+draw-more k x = rw add-one
 
 drawn-first : (n x : ℕ) → drawn_to n (drawn x) ≡ drawn (drawn_to n x)
 unfolding drawn_to
@@ -24,6 +28,28 @@ drawn-fold (k ∷ xs) x = drawn-fold xs (drawn x) ∙ drawn-first (length xs) x
 pub two-to-20 : of_bits binary64 4697254411347427328 ≡ of_int binary64 (pos 1048576)
 unfolding of_bits of_int
 two-to-20 = refl
+
+module _ (x : ℕ) where
+  pub magnitude-zero : x % 16 ≡ 0 → 0 ≡ magnitude_of x
+  unfolding magnitude_of
+  magnitude-zero e = simp (eq-eqb (x % 16) 0 e)
+
+  pub magnitude-bound : x % 16 ≡ 1 → 4194304 ≡ magnitude_of x
+  unfolding magnitude_of
+  magnitude-bound e = rw e
+
+  pub magnitude-any : (x % 16 ≢ 0) → (x % 16 ≢ 1) → x / 256 % 4194305 ≡ magnitude_of x
+  unfolding magnitude_of
+  magnitude-any a b = simp (ne_eqb (x % 16) 0 a, ne_eqb (x % 16) 1 b)
+
+module _ (x m : ℕ) (v : Float) (em : m ≡ magnitude_of x) (ev : v ≡ fraction_of m) where
+  pub value-negative : x / 16 % 2 ≡ 1 → neg v ≡ value_of x
+  unfolding value_of
+  value-negative e = simp (eq-eqb (x / 16 % 2) 1 e) (ap neg (ev ∙ ap fraction_of em))
+
+  pub value-positive : (x / 16 % 2 ≢ 1) → v ≡ value_of x
+  unfolding value_of
+  value-positive e = simp (ne_eqb (x / 16 % 2) 1 e) (ev ∙ ap fraction_of em)
 
 -- what a loop that draws into d has at k
 pub record Drawing (seed before : ℕ) (d dst : List Float) (x k : ℕ) : Type 0 where
@@ -48,18 +74,49 @@ module _ {seed before : ℕ} {d : List Float} where
   unfolding values_after
   drawn-all p l = ends-all p.filling l refl
 
-pub above-all : of_bits binary64 9218868437227405312 ≡ inf false
+-- the patterns of the values that no frame may have
+pub above-bits : of_bits binary64 9218868437227405312 ≡ inf false
 unfolding of_bits
+above-bits = refl
+
+pub below_bits : of_bits binary64 18442240474082181120 ≡ inf true
+unfolding of_bits
+below_bits = refl
+
+pub no_number-bits : of_bits binary64 9221120237041090560 ≡ nan
+unfolding of_bits
+no_number-bits = refl
+
+-- the same as quotients
+pub above-all : div binary64 (of_bits binary64 4607182418800017408) (of_bits binary64 0) ≡ inf false
+unfolding of_bits div
 above-all = refl
 
-pub below_all : of_bits binary64 18442240474082181120 ≡ inf true
-unfolding of_bits
+pub below_all : div binary64 (neg (of_bits binary64 4607182418800017408)) (of_bits binary64 0) ≡ inf true
+unfolding of_bits div neg
 below_all = refl
 
-pub no_number : of_bits binary64 9221120237041090560 ≡ nan
-unfolding of_bits
+pub no_number : div binary64 (of_bits binary64 0) (of_bits binary64 0) ≡ nan
+unfolding of_bits div
 no_number = refl
 
 pub wild-other : (kind : ℕ) → (kind ≢ 1) → (kind ≢ 2) → (kind ≢ 3) → (kind ≢ 4) → nan ≡ wild_of kind
 unfolding wild_of
 wild-other kind a b c d = simp (ne_eqb kind 1 a, ne_eqb kind 2 b, ne_eqb kind 3 c, ne_eqb kind 4 d)
+
+module _ (first kind place : ℕ) (xs : List Float) where
+  pub wild-none : kind ≡ 0 → xs ≡ with_wild first kind place xs
+  unfolding with_wild
+  wild-none e = simp (eq-eqb kind 0 e)
+
+  pub wild-before : (kind ≢ 0) → place < first → xs ≡ with_wild first kind place xs
+  unfolding with_wild
+  wild-before a b = simp (ne_eqb kind 0 a, lt-ltb place first b)
+
+  pub wild-past : (kind ≢ 0) → first ≤ place → length xs ≤ place - first → xs ≡ with_wild first kind place xs
+  unfolding with_wild
+  wild-past a b l = simp (ne_eqb kind 0 a, le-ltb place first b, le-ltb (place - first) (length xs) l)
+
+  pub wild-put : (kind ≢ 0) → first ≤ place → place - first < length xs → (v : Float) → v ≡ wild_of kind → slice_set xs (place - first) v ≡ with_wild first kind place xs
+  unfolding with_wild
+  wild-put a b l v e = simp (ne_eqb kind 0 a, le-ltb place first b, lt-ltb (place - first) (length xs) l) (ap (λ (y : Float). slice_set xs (place - first) y) e)

@@ -1,5 +1,5 @@
 -- What a frame's opening says, by the table of oracle/README.md. Definitions only.
-use Rattle.std.specs.Prelude.{ℕ, ◌+◌, ◌*◌, ◌%◌, cond, List, [], ◌∷◌, replicate, ◌==◌, slice_index, slice_index_or, Float}
+use Rattle.std.specs.Prelude.{ℕ, ◌+◌, ◌*◌, cond, List, [], ◌∷◌, replicate, ◌==◌, slice_index_or, Float}
 use Rattle.encoding.specs.Encoding.{number_at}
 use Rattle.fill.specs.Tab.{tab}
 use Rattle.mc_base.specs.Base.{base_from, Base}
@@ -8,13 +8,9 @@ use Rattle.mc_state.specs.Answer.{lent_of}
 use Rattle.mc_state.specs.Frame.{Lent}
 use Rattle.replay_list.specs.Values.{values_after, with_wild}
 
--- a number of four bytes
-abbrev pub number32_at : List ℕ → ℕ → ℕ
-number32_at bytes at = number_at bytes at 4 % 4294967296
-
 -- of n elements of a second base channel all are lent, or none
 abbrev pub second_lent : List ℕ → ℕ → ℕ
-second_lent opening n = cond (slice_index opening 17 == 1) n 0
+second_lent opening n = cond (number_at opening 17 1 == 1) n 0
 
 abbrev pub step_counts : List ℕ
 step_counts = 0 ∷ 3 ∷ 5 ∷ 7 ∷ 9 ∷ 15 ∷ 31 ∷ 63 ∷ 127 ∷ 255 ∷ 511 ∷ 1023 ∷ 2047 ∷ 4095 ∷ 8191 ∷ 16383 ∷ 32767 ∷ 65535 ∷ []
@@ -25,29 +21,29 @@ steps_of class = slice_index_or step_counts class 4
 
 -- n step counts, by their classes from `first` on
 unfoldable pub steps_from : List ℕ → ℕ → ℕ → List ℕ
-steps_from opening first n = tab (λ k. steps_of (slice_index opening (first + k))) n
+steps_from opening first n = tab (λ k. steps_of (number_at opening (first + k) 1)) n
 
 -- n values, drawn after the first `before`; the first has the place `first`
 unfoldable pub lent_values : List ℕ → ℕ → ℕ → ℕ → List Float
 lent_values opening before first n =
-    with_wild first (slice_index opening 21) (number_at opening 22 2) (values_after (number_at opening 32 8) before n)
+    with_wild first (number_at opening 21 1) (number_at opening 22 2) (values_after (number_at opening 32 8) before n)
 
 -- a new state, its history drawn after the base values and each desk with the same tally, or the state before it
 unfoldable pub start_of : List ℕ → McDecodeState → McDecodeState
 start_of opening state =
-    cond (slice_index opening 19 == 1)
+    cond (number_at opening 19 1 == 1)
     record {
       pred_hist = lent_values opening (2304 + 2 * second_lent opening 1152) 4608 576;
-      layout_len = slice_index opening 20;
+      layout_len = number_at opening 20 1;
       layout = 0;
-      accepted = replicate 8 (number32_at opening 24);
+      accepted = replicate 8 (number_at opening 24 4);
     }
     state
 
 -- what the frame call is lent, with the strings, the base and the step counts
 abbrev pub lent_with : List ℕ → List ℕ → List ℕ → Base → List ℕ → List ℕ → Lent
 lent_with opening head payload base base_steps steps =
-    lent_of head (number_at opening 4 4) payload (number_at opening 8 4) (number32_at opening 88) (number32_at opening 92) (number32_at opening 12) (slice_index opening 16) base base_steps (slice_index opening 18) steps
+    lent_of head (number_at opening 4 4) payload (number_at opening 8 4) (number_at opening 88 4) (number_at opening 92 4) (number_at opening 12 4) (number_at opening 16 1) base base_steps (number_at opening 18 1) steps
 
 -- the same, with so many values and step counts in each slice: raw left, raw right, scaled left and scaled right are drawn in this order
 abbrev pub lent_long : List ℕ → List ℕ → List ℕ → ℕ → ℕ → ℕ → ℕ → ℕ → ℕ → Lent

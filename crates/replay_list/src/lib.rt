@@ -6,6 +6,6 @@ mod outcome;
 mod tally;
 mod values;
 
-pub use opening::{byte_at, fill_steps, lend_values, lent_bytes, number32_at, second_lent, start};
-pub use outcome::{Differences, Outcome, Parts, compare, hashed_values, listed, reached};
+pub use opening::{fill_steps, lend_values, lent_bytes, second_lent, start};
+pub use outcome::{Differences, Left, Outcome, Parts, compare, hashed_values, listed, reached};
 pub use tally::{Tally, tallied};

@@ -1,14 +1,12 @@
 // What a frame answers and leaves behind, as six numbers, and how two such outcomes differ.
 ghost use Rattle.std.specs.Prelude.{◌≡◌, ◌+◌, length, map};
-ghost use Rattle.mc_state.specs.Answer.{buffers_now};
+ghost use Rattle.mc_state.specs.Answer.{buffers_from};
 ghost use Rattle.replay_list.specs.Outcome.{hash_of, hash_numbers, state_hash, listed_of, reached_of, differences_of, named_of};
 
 use encoding::number_at;
-use hash::{hash_floats, hash_number};
+use hash::{START, hash_floats, hash_number};
 use mc_error::McError;
-use mc_state::{Accepted, Buffers, McDecodeState, pack};
-
-const EMPTY_HASH: u64 = 0xCBF29CE484222325;
+use mc_state::{Accepted, EachBuffer, McDecodeState, pack};
 
 // Something of each part that is compared: the packed answer, the four buffers and the state.
 #[derive(Clone, Copy, PartialEq, Eq)]
@@ -20,6 +18,9 @@ pub struct Parts<T> {
     pub lfe: T,
     pub state: T,
 }
+
+// What a frame left in the four buffers.
+pub type Left<'a> = EachBuffer<&'a [f64]>;
 
 // The packed answer, and the hashes of the four buffers and of the state.
 pub type Outcome = Parts<u64>;
@@ -46,7 +47,7 @@ impl Parts<bool> {
 fn hash(xs: &[f64]) -> u64
     ensures { result ≡ hash_of xs.now }
 {
-    hash_floats(EMPTY_HASH, xs)
+    hash_floats(START, xs)
 }
 
 // The hash h, eight tallies more.
@@ -70,26 +71,22 @@ fn hash_state(state: &McDecodeState) -> u64
 }
 
 // How many floats those hashes are of.
-pub fn hashed_values(buffers: &Buffers<'_>) -> u64
-    ensures { let w = buffers_now buffers.now in result ≡ length w.raw + length w.work + length w.output + length w.lfe + 576 }
+pub fn hashed_values(left: Left<'_>) -> u64
+    ensures { let w = left.entry in result ≡ length w.raw.now + length w.work.now + length w.output.now + length w.lfe.now + 576 }
 {
-    (buffers.raw.len() + buffers.work.len() + buffers.output.len() + buffers.lfe.len() + 576) as u64
+    (left.raw.len() + left.work.len() + left.output.len() + left.lfe.len() + 576) as u64
 }
 
 // The outcome that the frame call reached.
-pub fn reached(
-    answer: Result<Accepted, McError>,
-    state: &McDecodeState,
-    buffers: &Buffers<'_>,
-) -> Outcome
-    ensures { result ≡ reached_of answer state.now (buffers_now buffers.now) }
+pub fn reached(answer: Result<Accepted, McError>, state: &McDecodeState, left: Left<'_>) -> Outcome
+    ensures { let w = left.entry in result ≡ reached_of answer state.now (buffers_from w.raw.now w.work.now w.output.now w.lfe.now) }
 {
     Parts {
         answer: pack(answer),
-        raw: hash(buffers.raw),
-        work: hash(buffers.work),
-        output: hash(buffers.output),
-        lfe: hash(buffers.lfe),
+        raw: hash(left.raw),
+        work: hash(left.work),
+        output: hash(left.output),
+        lfe: hash(left.lfe),
         state: hash_state(state),
     }
 }
@@ -108,6 +105,7 @@ pub fn listed(opening: &[u8]) -> Outcome
     }
 }
 
+// Part by part: that two outcomes are not equal would not say where they differ.
 pub fn compare(a: Outcome, b: Outcome) -> Differences
     ensures { result ≡ differences_of a b }
 {

@@ -13,7 +13,7 @@ pub struct Tally {
     pub different: u64,
 }
 
-// One frame more with an answer of this number.
+// One frame more with an answer of this number; above 14 there is none. By an `if`: after `get_mut` a proof is told nothing of the array.
 fn answered(answers: [u64; 15], n: usize) -> [u64; 15]
     ensures { result ≡ answered_of answers n }
 {
@@ -24,7 +24,7 @@ fn answered(answers: [u64; 15], n: usize) -> [u64; 15]
     next
 }
 
-// One frame more.
+// One frame more, by the packed answer, which a list has too: its low byte is the refusal's number, 0 for none.
 pub fn tallied(t: Tally, answer: u64, values: u64, different: bool) -> Tally
     ensures { result ≡ tallied_of t answer values different }
 {

@@ -22,7 +22,7 @@ pub fn draw_on(x: u64, n: usize) -> u64
 pub fn fraction(k: u32) -> f64
     ensures { result ≡ fraction_of k }
 {
-    k as f64 / 1048576.0
+    f64::from(k) / 1048576.0
 }
 
 #[tactic(auto, unfolding(crate::specs::Values::magnitude_of))]
@@ -45,7 +45,7 @@ pub fn value_of(x: u64) -> f64
     if x / 16 % 2 == 1 { -value } else { value }
 }
 
-// Fills dst with the values that are drawn after the first `before`.
+// Fills dst with the values that are drawn after the first `before`. Each is drawn from the one before it, so a function of its index would draw all again.
 pub fn fill_values(dst: &mut [f64], seed: u64, before: usize)
     ensures { dst.new ≡ values_after seed before (length dst.old) }
 {
@@ -70,7 +70,7 @@ pub fn wild_value(kind: u8) -> f64
     }
 }
 
-// Puts the wild value at its place, where dst, which starts at the place `first`, has it.
+// Puts the wild value at its place, where dst, which starts at the place `first`, has it. Kind 0 is none, as the byte of an opening has it.
 #[tactic(auto, unfolding(crate::specs::Values::with_wild))]
 pub fn put_wild(dst: &mut [f64], first: usize, kind: u8, place: usize)
     ensures { dst.new ≡ with_wild first kind place dst.old }

@@ -8,7 +8,8 @@ use bitalloc::QuantClass;
 
 // A code of n bits as a fraction: its first bit inverted, then read in two's complement, which is the code less
 // 2^(n-1), and over 2^(n-1). The inverse of a power of two is exact, and a product is quicker than a quotient.
-// Here and below a code and its width are two numbers: they come from two tables, and a struct of both would serve one call.
+// Here and below a code and its width are two numbers. The public functions take them so, each with a width of its own: that of a class, nb,
+// an allocation plus 1. `requantize_code` and `requantize_lfe` would make a struct of both each for its one call of `fraction_of`.
 fn fraction_of(code: u32, n: u32) -> f64
     requires width { (1 ≤ n) × (n ≤ 16) }
     requires code_bound { code < 2 ^ n }
@@ -29,13 +30,15 @@ pub fn requantize_code(class: QuantClass, code: u32) -> f64
     class.c * (fraction_of(code, class.bits_per_sample) + class.d)
 }
 
-// The three samples of a grouped code, the lowest digit first, and what the code holds beyond them.
+// The three samples of a grouped code, the lowest digit first, and what the code holds beyond them. Not one generic type with `ThreeValues`
+// of mc_samples: it would have one name for digits and values, where each now has its own.
 #[derive(Clone, Copy)]
 pub struct Degrouped {
     pub digits: [u32; 3],
     pub excess: u32,
 }
 
+// `0 < nb_steps` is on a number: a narrower type would ask more of callers.
 pub fn degroup(nb_steps: u32, combined: u32) -> Degrouped
     requires { 0 < nb_steps }
     ensures { (result.digits ≡ degrouped nb_steps combined) × (result.excess ≡ excess_of nb_steps combined) }
@@ -60,7 +63,7 @@ pub fn requantize_lfe(code: u32, nb: u32) -> f64
     t / (t - 1.0) * (fraction_of(code, nb) + 1.0 / f64::from(msb))
 }
 
-// An LFE sample under an allocation from 1 to 15, scaled.
+// An LFE sample under an allocation from 1 to 15, scaled. `scalefactor_bound` is on a number: a narrower type would ask more of callers.
 pub fn lfe_sample(allocation: u32, scalefactor: usize, code: u32) -> f64
     requires allocation { (1 ≤ allocation) × (allocation ≤ 15) }
     requires scalefactor_bound { scalefactor < 63 }

@@ -73,7 +73,7 @@ pub static SCALEFACTORS: [f64; SCALEFACTOR_COUNT] = [
     0.000_001_201_554_35,
 ];
 
-// Table B.1 at an index.
+// Table B.1 at an index below 63, which is the caller's number: a narrower type would ask more of callers.
 pub fn scalefactor(index: usize) -> f64
     requires { index < 63 }
     ensures { result ≡ scalefactor_of index }
@@ -81,7 +81,7 @@ pub fn scalefactor(index: usize) -> f64
     SCALEFACTORS[index]
 }
 
-// The whole table.
+// The whole table: `SCALEFACTORS` is what it lends. Three names, as all three are public.
 pub fn scalefactor_table() -> &'static [f64; SCALEFACTOR_COUNT]
     ensures { result.now ≡ scalefactors }
 {

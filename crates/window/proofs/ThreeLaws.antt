@@ -1,14 +1,15 @@
 -- Three fields in one window of eight bytes, and three reads.
 use Rattle.std.specs.Prelude.{◌≡◌, List, ℕ, [], ◌∷◌, ◌+◌, ◌-◌, ◌*◌, ◌/◌, ◌%◌, ◌^◌, ◌≤◌, ◌<◌, get_or, All}
-use Rattle.std.proofs.Common.{refl, subst, add-zero, arith}
+use Rattle.std.proofs.Common.{refl, subst, ◌∙◌, add-zero, arith}
 use Rattle.std.proofs.lemmas.List.Elements.{All-cons}
 use Rattle.bits.specs.Bits.{value_at}
 use Rattle.bits.specs.Syntax.{Syntax, Refusal, done, refuse, field, run, bind}
 use Rattle.bits.proofs.SyntaxLaws.{fitted}
 use Rattle.bits.proofs.BitsLaws.{value<}
+use Rattle.bit_reader.specs.Answer.{moved}
 use Rattle.bit_reader.specs.Reads.{Goes}
 use Rattle.bit_reader.specs.declared.BitReader.{BitReader}
-use Rattle.bit_reader.proofs.ReadLaws.{field-on, field-fits, goes-bind, then, stays, ended-value}
+use Rattle.bit_reader.proofs.ReadLaws.{field-on, field-fits, goes-bind, then, stays, ended-value, moved-fits, moved-once}
 use Rattle.window.specs.Three.{three}
 use Rattle.window.proofs.WindowLaws.{window-field}
 
@@ -30,17 +31,17 @@ module _ {B : Type 0} {r r' : BitReader} {n : ℕ} {k : ℕ → ℕ → ℕ → 
 
 -- ---- the three fields of a window
 
-module _ (r r' : BitReader) (n window : ℕ) (eb : r'.bytes ≡ r.bytes) (el : r'.limit ≡ r.limit) (ea : r'.at ≡ r.at + 3 * n) (h : r.at + 48 ≤ r.limit) (N : n ≤ 16)
-    (e : window ≡ value_at r.bytes.now (r.at / 8 * 8) 64)
+module _ (r r' : BitReader) (n window : ℕ) (es : r'.string ≡ r.string) (ea : r'.at ≡ r.at + 3 * n) (h : r.at + 48 ≤ r.string.bits) (N : n ≤ 16)
+    (e : window ≡ value_at r.string.bytes.now (r.at / 8 * 8) 64)
   where
     -- the reader after j bits
     after : ℕ → BitReader
-    after j = record { bytes = r.bytes; limit = r.limit; at = r.at + j }
+    after j = record { string = r.string; at = r.at + j }
 
-    part : (j x : ℕ) → j + n ≤ 48 → x ≡ window / 2 ^ (64 - (r.at % 8 + j) - n) % 2 ^ n → x ≡ value_at r.bytes.now (r.at + j) n
+    part : (j x : ℕ) → j + n ≤ 48 → x ≡ window / 2 ^ (64 - (r.at % 8 + j) - n) % 2 ^ n → x ≡ value_at r.string.bytes.now (r.at + j) n
     part j x l ex =
         let d : r.at % 8 + j - r.at % 8 ≡ j = omega arith in
-        rw d at (window-field r.bytes.now r.at n (r.at % 8 + j) window e (omega arith) (omega arith) x ex)
+        rw d at (window-field r.string.bytes.now r.at n (r.at % 8 + j) window e (omega arith) (omega arith) x ex)
 
     pub three-window : (x y z : ℕ)
         → x ≡ window / 2 ^ (64 - r.at % 8 - n) % 2 ^ n
@@ -52,9 +53,9 @@ module _ (r r' : BitReader) (n window : ℕ) (eb : r'.bytes ≡ r.bytes) (el : r
         let x' = part 0 x (omega arith) (rw add-zero ex) in
         let y' = part n y (omega arith) ey in
         let z' = part (2 * n) z (omega arith) ez in
-        field-on (field-fits {r' = after n} n x refl refl refl (omega arith) (rw add-zero at x'))
-        (field-on (field-fits {r' = after (2 * n)} n y refl refl (omega arith) (omega arith) y')
-        (field-on (field-fits {r' = r'} n z eb el (omega arith) (omega arith) z') stays))
+        field-on (field-fits {r' = after n} n x refl refl (omega arith) (rw add-zero at x'))
+        (field-on (field-fits {r' = after (2 * n)} n y refl (omega arith) (omega arith) y')
+        (field-on (field-fits {r' = r'} n z es (omega arith) (omega arith) z') stays))
 
 -- ---- three reads
 
@@ -63,12 +64,17 @@ pub three-read : {r r' r'' r''' : BitReader} (n x y z : ℕ) → Goes r (field n
 unfolding three
 three-read n x y z g h i = field-on g (field-on h (field-on i stays))
 
+-- three fields within the limit are all read
+pub three-moved : (l n p : ℕ) → p + 3 * n ≤ l → moved l n 3 p ≡ p + 3 * n
+three-moved l n p h =
+    moved-fits l n p 2 (omega arith) ∙ moved-fits l n (p + n) 1 (omega arith) ∙ moved-once l n (p + n + n) (omega arith) ∙ omega arith
+
 -- the three have no more bits than their fields
 pub three-fits : {r r' : BitReader} (n : ℕ) {t : List ℕ} → Goes r (three n) r' (done t) → All (λ v. v < 2 ^ n) t
 unfolding three run
 three-fits {r} {r'} n {t} g =
-    let b = r.bytes.now in
-    let l = r.limit in
+    let b = r.string.bytes.now in
+    let l = r.string.bits in
     let x = value_at b r.at n in
     let y = value_at b (r.at + n) n in
     let z = value_at b (r.at + n + n) n in

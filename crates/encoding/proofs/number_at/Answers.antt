@@ -1,22 +1,14 @@
--- `encoding::number_at` meets its contract. The loop reads the last byte first.
-use native.Mathlib.Omega.{arith}
-use Rattle.encoding.proofs.EncodingLaws.{read-starts, read_more, read_fits, read-ends}
-use mathlib.Core.Path.{refl, ◌∙◌, ap}
-use Prim.Native.Nat.{ℕ}
-use Rattle.encoding.specs.Encoding.{lowest_first}
+-- `encoding::number_at` meets its contract.
+use Rattle.std.proofs.Common.{rules, ap, ◌∙◌}
+use Rattle.std.specs.Int.{w64, from_le_bytes}
+use Rattle.encoding.specs.Encoding.{byte_of}
+use Rattle.fill.proofs.FromFn.{tab-made}
+use Rattle.encoding.proofs.EncodingLaws.{eight-bytes}
 use Rattle.encoding.proofs.number_at.Goals as goal
 
-pub loop-k-init : goal.loop-k-init
-loop-k-init c = let a = c.args in read-starts a.bytes.now a.at _ _ refl
-
-pub overflow_mul-value : goal.overflow_mul-value
-overflow_mul-value c = let a = c.args in omega (arith, read_fits a.bytes.now a.at _ _ _ c.loop-k-test.true (omega (arith, c.min-k.ensures)) c.loop-k.invariant)
-
-pub overflow_add-value : goal.overflow_add-value
-overflow_add-value c = let a = c.args in omega (arith, read_fits a.bytes.now a.at _ _ _ c.loop-k-test.true (omega (arith, c.min-k.ensures)) c.loop-k.invariant)
-
-pub loop-k-preserved : goal.loop-k-preserved
-loop-k-preserved c = let a = c.args in read_more a.bytes.now a.at _ _ _ _ c.loop-k-test.true c.loop-k.invariant c.byte_at.ensures.value c.byte_at.ensures.upper_bound
-
 pub returns : goal.returns
-returns c = let a = c.args in read-ends a.bytes.now a.at _ _ _ (omega arith) c.loop-k.invariant ∙ ap (λ (m : ℕ). lowest_first a.bytes.now a.at m) c.min-k.ensures
+returns c =
+    let a = c.args in
+    c.from_le_bytes.ensures
+    ∙ (ap (from_le_bytes w64) (tab-made 0 (byte_of a.bytes.now a.at a.n) c.from_fn.ensures.items (λ i low x after called. (search rules, search rules)))
+    ∙ eight-bytes a.bytes.now a.at a.n)

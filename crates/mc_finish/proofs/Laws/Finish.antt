@@ -1,5 +1,5 @@
 -- What is asked of the tables holds for those of any settings, and what takes no part in finishing does not matter.
-use Rattle.std.specs.Prelude.{◌≡◌, refl, Bool, true, false, ◌&&◌, cond, List, ℕ, ◌+◌, ◌/◌, ◌%◌, ◌≤◌, ◌<◌, eqb, ltb, Float, length, get_or}
+use Rattle.std.specs.Prelude.{◌≡◌, refl, Bool, true, false, ◌&&◌, cond, List, [], ℕ, ◌+◌, ◌/◌, ◌%◌, ◌≤◌, ◌<◌, eqb, ltb, Float, length, get_or}
 use Rattle.std.proofs.Common.{◌∙◌, arith}
 use Rattle.mc_config.proofs.ConfigLaws.{main-most}
 use Rattle.mc_config.specs.Config.{main_of}
@@ -10,7 +10,7 @@ use Rattle.mc_fields.specs.Head.{mode_at, second_at}
 use Rattle.mc_payload.specs.declared.McSettings.{McSettings}
 use Rattle.mc_payload.specs.Places.{pair, source_at, sources_of, bases_of}
 use Rattle.mc_payload.specs.Record.{Record}
-use Rattle.mc_base.specs.Base.{Base, scaled_base, chosen, base_from}
+use Rattle.mc_base.specs.Base.{Base, chosen, base_from}
 use Rattle.mc_scale.specs.Scale.{scaled_at, scaled_of}
 use Rattle.mc_predict.specs.Predict.{with_term, sum_of, work_at}
 use Rattle.mc_output.specs.Output.{work_of, output_at, output_of}
@@ -44,6 +44,10 @@ pub bases-long : (s : McSettings) (b : Base) → BaseFits s b → (i : ℕ) → 
 bases-long s b fits i h = rw (base-at s i h) (crossed-long s (i % 3) (i / 3) b.raw_left b.raw_right fits.raw_left_long fits.raw_right_long)
 
 -- ---- what takes no part
+
+-- what dematrixing and the history take of a base
+abbrev pub scaled_base : List Float → List Float → Base
+scaled_base left right = record { raw_left = []; raw_right = []; scaled_left = left; scaled_right = right }
 
 pub output-scaled : (s : McSettings) (b : Base) (work : List Float) {output : List Float} → output ≡ output_of s (scaled_base b.scaled_left b.scaled_right) work → output ≡ output_of s b work
 unfolding output_of output_at

@@ -1,4 +1,4 @@
--- The output where nothing but the base is heard is that of the definition.
+-- The output where the output is the base alone is that of the definition.
 use Rattle.std.specs.Prelude.{◌≡◌, refl, Bool, true, false, cond, List, [], ◌∷◌, ◌++◌, ℕ, ◌+◌, ◌-◌, ◌≤◌, min, length, ltb, zero, suc, ◌*◌, ◌/◌, ◌%◌, ◌<◌, eqb, Float, get_or}
 use Rattle.std.proofs.Common.{sym, ◌∙◌, ⊎_elim, eq-zero-or-pos, lt-ltb, le-ltb, ltb-true, ltb-false, arith}
 use Rattle.std.proofs.lemmas.List.{places}
@@ -14,7 +14,7 @@ use Rattle.mc_base.specs.Base.{Base, chosen}
 use Rattle.mc_predict.specs.Predict.{base_for}
 use Rattle.mc_dematrix.specs.Dematrix.{dematrixed, passed, weighted, unweighted}
 use Rattle.mc_output.specs.Output.{output_of}
-use Rattle.mc_output.specs.Code.OutputByMix.{mix_of, tcs_of, second_by, main_by, output_by, base_by, beyond, base_alone}
+use Rattle.mc_output.specs.Code.OutputByMix.{mix_of, tcs_of, second_by, channel_by, main_by, output_by, base_by, beyond, base_alone_at, base_alone}
 use Rattle.mc_output.proofs.Laws.OutputByMix.{output-written}
 
 unmixed : (p tc : ℕ) (lo ro t2 t3 t4 : Float) (pair : ℕ) → main_of pair ≡ 0 → dematrixed pair p tc lo ro t2 t3 t4 ≡ lo ∷ ro ∷ zero64 ∷ zero64 ∷ zero64 ∷ []
@@ -28,6 +28,16 @@ unmixed p tc lo ro t2 t3 t4 =
     same true = refl
     same false = refl
 
+-- the element that stands at slot and subband t of channel ch
+pub base-value :
+    (x : Mix) (left right : List Float) (t ch : ℕ)
+    → t < 1152
+    → channel_by x (base_by left right t) ch ≡ base_alone_at x left right (t + 1152 * ch)
+base-value x left right t ch h =
+    let j : (t + 1152 * ch) % 1152 ≡ t = omega arith in
+    let c : (t + 1152 * ch) / 1152 ≡ ch = omega arith in
+    rw (j, c)
+
 -- two lists of n copied to the front of a third
 module _ (n : ℕ) (left right d : List Float) (left_long : length left ≡ n) (right_long : length right ≡ n) where
   abbrev copied : List Float
@@ -39,7 +49,7 @@ module _ (n : ℕ) (left right d : List Float) (left_long : length left ≡ n) (
   second-copied : (k : ℕ) → n ≤ k → k < n + n → get_or copied k nan ≡ get_or right (k - n) nan
   second-copied k h l = grind (arith, places)
 
--- the channels past the first two carry +0
+-- the channels past the first two are +0
 silent : (a b : Float) (m : ℕ) → 2 ≤ m → m < 5 → zero64 ≡ get_or (a ∷ b ∷ zero64 ∷ zero64 ∷ zero64 ∷ []) m nan
 silent a b zero l h = absurd (omega arith)
 silent a b (suc zero) l h = absurd (omega arith)

@@ -24,7 +24,7 @@ use Rattle.mc_output.specs.Output.{main_at, mixed_at, channels, second, output_a
 use Rattle.mc_output.specs.Code.OutputByMix.{mix_of, tcs_of, mixed_by, SecondFits, second_by, channel_by, output_by, mixed_of_at}
 use Rattle.mc_predict.proofs.Laws.Chosen.{first-base}
 use Rattle.mc_scale.specs.Code.Strided.{across}
-use Rattle.mc_scale.proofs.Laws.Strided.{length-strided, get_or-strided, strided-other}
+use Rattle.fill.proofs.StridedLaws.{length-strided, get_or-strided, strided-other}
 use Rattle.mc_scale.proofs.Laws.TurnBlock.{turn-block}
 
 -- one slot and subband of a loop that writes five channels side by side

@@ -83,7 +83,7 @@ beyond_at channels d k = cond (ltb k (1152 * channels)) (get_or d k nan) zero64
 unfoldable pub beyond : ℕ → List Float → List Float
 beyond channels d = tab (beyond_at channels d) 5760
 
--- the five values where nothing but the base is heard, and the element k of that output
+-- the five values where the output is the base alone, and the element k of that output
 abbrev pub base_by : List Float → List Float → ℕ → List Float
 base_by left right j = get_or left j nan ∷ get_or right j nan ∷ zero64 ∷ zero64 ∷ zero64 ∷ []
 

@@ -35,5 +35,24 @@ predicted-once pair mode k h =
 pub predicted-low : (pair mode k : ℕ) → k < length (predicted_of pair mode) → get_or (predicted_of pair mode) k 0 < 3
 predicted-low pair mode k h = omega (arith, predicted-below pair mode k h, main-most pair)
 
-pub predicted-few : (pair mode : ℕ) {channels : List ℕ} → channels ≡ predicted_of pair mode → length channels ≤ 3
-predicted-few pair mode e = rw e (omega (arith, predicted-most pair mode, main-most pair))
+pub predicted_few : (pair mode : ℕ) {channels : List ℕ} → channels ≡ predicted_of pair mode → length channels ≤ 3
+predicted_few pair mode e = rw e (omega (arith, predicted-most pair mode, main-most pair))
+
+-- what a loop over the predicted channels knows of them
+pub record Listed (l : List ℕ) (count : ℕ) (channels : List ℕ) : Type 0 where
+  pub all : count ≡ length l
+  pub few : count ≤ 3
+  pub at : (k : ℕ) → get_or channels k 0 ≡ get_or l k 0
+  pub low : (k : ℕ) → k < count → get_or l k 0 < 3
+  pub once : (k : ℕ) → k < count → place_in l (get_or l k 0) ≡ k
+
+pub predicted-listed : (pair mode : ℕ) {channels : List ℕ} → channels ≡ predicted_of pair mode → Listed (predicted_of pair mode) (length channels) channels
+predicted-listed pair mode e =
+    rw e
+    (record {
+      all = refl;
+      few = predicted_few pair mode refl;
+      at = λ k. refl;
+      low = predicted-low pair mode;
+      once = predicted-once pair mode;
+    })

@@ -12,7 +12,7 @@ use Rattle.mc_predict.specs.Predict.{place_in}
 use Rattle.mc_scale.specs.Code.Column.{slot_of}
 use Rattle.mc_scale.proofs.Laws.Column.{at-subband, at-channel}
 use Rattle.mc_scale.specs.Code.Strided.{column}
-use Rattle.mc_scale.proofs.Laws.Strided.{length-strided, get_or-strided, strided-other}
+use Rattle.fill.proofs.StridedLaws.{length-strided, get_or-strided, strided-other}
 use Rattle.mc_predict.proofs.Laws.PlaceIn.{place_found}
 use Rattle.mc_predict.specs.Code.PredictByLine.{sum_by, added_by, subband_at, subband_of}
 use Rattle.mc_scale.proofs.Laws.TurnBlock.{turn-block, turn-rest}

@@ -1,7 +1,7 @@
 -- `mc_predict::predict_column` meets its contract. The loop writes the slots of one column, and a slot that it has not come to is as it was.
 use Rattle.std.proofs.Common.{rules, arith}
 use Rattle.std.specs.Float.{nan}
-use Rattle.mc_scale.proofs.Laws.Strided.{stride-starts, stride-more, stride-ends, stride-left}
+use Rattle.fill.proofs.StridedLaws.{stride-starts, stride-more, stride-ends, stride-left}
 use Rattle.mc_predict.proofs.predict_column.Goals as goal
 
 pub loop-slot-init : goal.loop-slot-init

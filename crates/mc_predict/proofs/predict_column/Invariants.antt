@@ -3,7 +3,7 @@ use Rattle.std.proofs.Common.{ℕ, ◌+◌, ◌*◌, get_or}
 use Rattle.std.specs.Float.{nan}
 use Rattle.floats.specs.Binary64.{◌⊕◌}
 use Rattle.mc_predict.specs.Code.PredictByLine.{pair_sum}
-use Rattle.mc_scale.proofs.Laws.Strided.{Striding}
+use Rattle.fill.proofs.StridedLaws.{Striding}
 use Rattle.mc_predict.proofs.predict_column.Given as goal
 
 abbrev pub invariant-loop-slot : goal.invariant-loop-slot

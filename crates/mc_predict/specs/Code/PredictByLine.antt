@@ -66,7 +66,11 @@ unfoldable pub groups_of :
     ℕ → List ℕ → List ℕ → List (List ℕ) → List (List (List Float)) → List Float → List Float → List Float → List Float → List Float
 groups_of pair flags modes delay coef left right history work = tab (groups_at pair flags modes delay coef left right history work) 3456
 
--- the same under settings, from both base channels
+-- the same under settings, from the channels that stand for both
+abbrev pub predicted_by : McSettings → List (List ℕ) → List (List (List Float)) → List Float → List Float → List Float → List Float → List Float
+predicted_by s delay coef first second history work =
+    groups_of (pair s) s.status.mc_prediction s.status.dyn_cross delay coef first second history work
+
+-- the same from the base channels as they are lent
 abbrev pub predicted_work : McSettings → List (List ℕ) → List (List (List Float)) → List Float → List Float → List Float → List Float → List Float
-predicted_work s delay coef left right history work =
-    groups_of (pair s) s.status.mc_prediction s.status.dyn_cross delay coef left (chosen (base_for s 1) left right) history work
+predicted_work s delay coef left right history work = predicted_by s delay coef left (chosen (base_for s 1) left right) history work

@@ -9,6 +9,6 @@ pub returns : goal.returns
 unfolding predictable_table
 returns c =
     let mode = c.args.mode in
-    row-or-none c.predictable_rows.result.now mode c.get.result c.get.ensures.lookup c.copied.result c.copied.ensures c.unwrap_or.result _ c.unwrap_or.ensures refl
+    row-or-none c.predictable_rows.result.now mode c.get.result (rw c.from.ensures at c.get.ensures.lookup) c.copied.result c.copied.ensures c.unwrap_or.result _ c.unwrap_or.ensures refl
     ∙ ap (λ (rows : List (List ℕ)). get_or rows mode []) c.predictable_rows.ensures
     ∙ predictable-agrees c.args.pair mode

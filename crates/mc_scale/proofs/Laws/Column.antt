@@ -3,7 +3,7 @@ use Rattle.std.specs.Prelude.{◌≡◌, List, ℕ, ◌+◌, ◌*◌, ◌/◌, �
 use Rattle.std.proofs.Common.{sym, ap, ◌∙◌, lt_of_lt_of_le, arith, lit<}
 use Rattle.fill.proofs.ByTurn.{ByTurn}
 use Rattle.mc_scale.specs.Code.Strided.{column}
-use Rattle.mc_scale.proofs.Laws.Strided.{length-strided, get_or-strided, strided-other}
+use Rattle.fill.proofs.StridedLaws.{length-strided, get_or-strided, strided-other}
 use Rattle.mc_scale.proofs.Laws.TurnBlock.{turn-block, turn-skip}
 use Rattle.mc_scale.specs.Code.Column.{column_at, place_of, slot_of, place_at, turn_of}
 
@@ -49,41 +49,50 @@ place-turn k i h l e =
     same : (a b c d : ℕ) → a < 3 → b < 3 → 3 * c + a ≡ 3 * d + b → a ≡ b
     same a b c d h l e = omega arith
 
--- one column of a loop that writes a buffer column by column: the element's value is given by its place and its slot
+-- a loop that writes a buffer column by column: the element's value is given by its place and its slot. The turn i is that of the place t
+module _
+    {A : Type 0} {z : A} (g : ℕ → ℕ → A) {turn : ℕ → ℕ} {d dst : List A} {i : ℕ} (t : ℕ)
+    (p : ByTurn z turn (λ (k : ℕ). g (place_of k) (slot_of k)) 3456 d dst i) (on : (k : ℕ) → turn k ≡ i → place_of k ≡ t)
+  where
+    -- one column
+    pub column-turn :
+        t < 96
+        → ((k : ℕ) → k < 3456 → place_of k ≡ t → turn k ≡ i)
+        → ByTurn z turn (λ (k : ℕ). g (place_of k) (slot_of k)) 3456 d (column (g t) (column_at t) dst) (i + 1)
+    column-turn low off =
+        turn-block p (length-strided 32 (g t) (column_at t) dst 36) here
+        (λ k n. strided-other 32 (g t) (column_at t) dst z 36 k (λ j s w. n (rw w (bound j s)) (there k j s w)))
+      where
+        bound : (j : ℕ) → j < 36 → column_at t + 32 * j < 3456
+        bound j s = omega arith
+
+        there : (k j : ℕ) → j < 36 → k ≡ column_at t + 32 * j → turn k ≡ i
+        there k j s w = off k (rw w (bound j s)) (ap place_of w ∙ column-place t j low s)
+
+        here : (k : ℕ) → k < 3456 → turn k ≡ i → get_or (column (g t) (column_at t) dst) k z ≡ g (place_of k) (slot_of k)
+        here k l s =
+            let e = on k s in
+            let w : column_at t + 32 * slot_of k ≡ k = ap (λ (n : ℕ). column_at n + 32 * slot_of k) (sym e) ∙ place-column k l in
+            let q = slot-below k in
+            ap (λ (n : ℕ). get_or (column (g t) (column_at t) dst) n z) (sym w)
+            ∙ (get_or-strided 32 (g t) (column_at t) dst z 36 (slot_of k) (lit< tt) q (rw p.long (lt_of_lt_of_le (bound (slot_of k) q) p.room)) ∙ ap (λ (n : ℕ). g n (slot_of k)) (sym e))
+
+    -- a column that is not written, where its elements hold already what they are to hold
+    pub column-skip : ((k : ℕ) → k < 3456 → get_or d k z ≡ g t (slot_of k)) → ByTurn z turn (λ (k : ℕ). g (place_of k) (slot_of k)) 3456 d dst (i + 1)
+    column-skip same = turn-skip p (λ k l e. same k l ∙ ap (λ (n : ℕ). g n (slot_of k)) (sym (on k e)))
+
+-- the same where the places are taken channel by channel
 pub turn-column :
     {A : Type 0} {z : A} (g : ℕ → ℕ → A) {d dst : List A} {i : ℕ}
     → ByTurn z turn_of (λ (k : ℕ). g (place_of k) (slot_of k)) 3456 d dst i
     → i < 96
     → ByTurn z turn_of (λ (k : ℕ). g (place_of k) (slot_of k)) 3456 d (column (g (place_at i)) (column_at (place_at i)) dst) (i + 1)
-turn-column {A} {z} g {d} {dst} {i} p h =
-    turn-block p (length-strided 32 (g t) (column_at t) dst 36) here
-    (λ k n. strided-other 32 (g t) (column_at t) dst z 36 k (λ j s w. n (rw w (bound j s)) (there k j s w)))
-  where
-    t : ℕ
-    t = place_at i
+turn-column g {i = i} p h = column-turn g (place_at i) p (λ k s. sym (turn-place k) ∙ ap place_at s) (omega arith) (λ k l e. place-turn k i l h e)
 
-    low : place_at i < 96
-    low = omega arith
-
-    bound : (j : ℕ) → j < 36 → column_at t + 32 * j < 3456
-    bound j s = omega arith
-
-    there : (k j : ℕ) → j < 36 → k ≡ column_at t + 32 * j → turn_of k ≡ i
-    there k j s w = place-turn k i (rw w (bound j s)) h (ap place_of w ∙ column-place t j low s)
-
-    here : (k : ℕ) → k < 3456 → turn_of k ≡ i → get_or (column (g t) (column_at t) dst) k z ≡ g (place_of k) (slot_of k)
-    here k l s =
-        let e : place_of k ≡ t = sym (turn-place k) ∙ ap place_at s in
-        let w : column_at t + 32 * slot_of k ≡ k = ap (λ (n : ℕ). column_at n + 32 * slot_of k) (sym e) ∙ place-column k l in
-        let q = slot-below k in
-        ap (λ (n : ℕ). get_or (column (g t) (column_at t) dst) n z) (sym w)
-        ∙ (get_or-strided 32 (g t) (column_at t) dst z 36 (slot_of k) (lit< tt) q (rw p.long (lt_of_lt_of_le (bound (slot_of k) q) p.room)) ∙ ap (λ (n : ℕ). g n (slot_of k)) (sym e))
-
--- a column that is not written, where its elements hold already what they are to hold
+-- and one of them that is not written
 pub skip-column :
     {A : Type 0} {z : A} (g : ℕ → ℕ → A) {d dst : List A} {i : ℕ}
     → ByTurn z turn_of (λ (k : ℕ). g (place_of k) (slot_of k)) 3456 d dst i
     → ((k : ℕ) → k < 3456 → get_or d k z ≡ g (place_at i) (slot_of k))
     → ByTurn z turn_of (λ (k : ℕ). g (place_of k) (slot_of k)) 3456 d dst (i + 1)
-skip-column {A} {z} g {d} p same =
-    turn-skip p (λ k l e. same k l ∙ ap (λ (n : ℕ). g n (slot_of k)) (sym (ap place_at e) ∙ turn-place k))
+skip-column g {i = i} p same = column-skip g (place_at i) p (λ k s. sym (turn-place k) ∙ ap place_at s) same

@@ -11,12 +11,13 @@ use Rattle.fill.proofs.ByTurn.{ByTurn, turn-starts, turn-ends}
 use Rattle.floats.specs.Binary64.{◌⊗◌, zero64}
 use Rattle.mc_scale.specs.Scale.{scaled_at, scaled_of}
 use Rattle.mc_scale.specs.TwoSteps.{turns, element_at, copy_slot, scale_slot, copy_turn, scale_turn, two_steps, ScaledInTwo}
-use Rattle.mc_scale.specs.Code.Strided.{strided, column}
+use Rattle.fill.specs.Strided.{strided}
+use Rattle.mc_scale.specs.Code.Strided.{column}
 use Rattle.mc_scale.specs.Code.Column.{column_at, place_of, slot_of, place_at, turn_of}
 use Rattle.mc_scale.specs.Code.ScaleByPlace.{scaled_by_place}
 use Rattle.mc_scale.specs.Code.TwoSteps.{OneStep}
 use Rattle.mc_scale.proofs.Laws.Column.{at_slot, turn-column, column-place, turn-place, place-turn}
-use Rattle.mc_scale.proofs.Laws.Strided.{strided-other}
+use Rattle.fill.proofs.StridedLaws.{strided-other}
 use Rattle.mc_scale.proofs.Laws.TurnBlock.{turn-skip}
 
 -- ---- loops

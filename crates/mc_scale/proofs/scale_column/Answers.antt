@@ -1,6 +1,6 @@
 -- `mc_scale::scale_column` meets its contract. The loop writes the slots of one column.
 use mathlib.Core.Path.{refl}
-use Rattle.mc_scale.proofs.Laws.Strided.{stride-starts, stride-more, stride-ends}
+use Rattle.fill.proofs.StridedLaws.{stride-starts, stride-more, stride-ends}
 use native.Mathlib.Omega.{arith}
 use Rattle.mc_scale.proofs.scale_column.Goals as goal
 

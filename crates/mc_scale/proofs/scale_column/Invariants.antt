@@ -1,6 +1,6 @@
 -- `mc_scale::scale_column` meets its contract. The loop writes the slots of one column.
 use Rattle.mc_scale.specs.Code.ScaleByPlace.{times_factor}
-use Rattle.mc_scale.proofs.Laws.Strided.{Striding}
+use Rattle.fill.proofs.StridedLaws.{Striding}
 use Rattle.mc_scale.proofs.scale_column.Given as goal
 
 abbrev pub invariant-loop-slot : goal.invariant-loop-slot

@@ -13,7 +13,7 @@ place_of k = 3 * (k % 32) + k / 1152
 abbrev pub slot_of : ℕ → ℕ
 slot_of k = k / 32 % 36
 
--- the places are taken channel by channel: the one at turn i, and the turn of the element k
+-- the places taken channel by channel: the one at turn i, and the turn of the element k
 abbrev pub place_at : ℕ → ℕ
 place_at i = 3 * (i % 32) + i / 32
 

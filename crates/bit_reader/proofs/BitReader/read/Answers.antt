@@ -1,25 +1,31 @@
 -- `bit_reader::BitReader::read` meets its contract.
-use native.Mathlib.Omega.{arith}
-use Rattle.std.proofs.Common.{refl, ◌<◌, ◌^◌}
-use Rattle.std.proofs.lemmas.Result.{IfOk-from_err}
-use Rattle.bit_reader.proofs.ReadLaws.{returned, field-fits, field-short, found, short, read-bound}
+-- What answers share is a `let`, whose names are those of each goal.
+use Rattle.std.proofs.Common.{refl}
+use Rattle.bits.proofs.BitsLaws.{value<}
+use Rattle.bit_reader.proofs.ReadLaws.{returned, field-fits, field-short, found, short, moved-once, moved-short}
 use Rattle.bit_reader.proofs.BitReader.read.Goals as goal
 
-pub returns-in_err-value : goal.returns-in_err-value
-returns-in_err-value c =
-    let s = short _ _ _ _ _ c.in_err-value.ensures in
-    record {
-      reads = returned _ _ c.from_residual.ensures.1 (rw s.error (field-short _ refl refl s.past));
-      bound = IfOk-from_err c.from_residual.result (λ v. v < 2 ^ c.args.n) c.from_residual.ensures.0;
-    }
+pub returns-in_err-value-clause-reads : goal.returns-in_err-value-clause-reads
+returns-in_err-value-clause-reads c =
+    let s = short _ _ _ _ _ c.in_err-value.ensures.value in
+    returned _ _ c.from_residual.ensures.1 (rw s.error (field-short _ refl s.past))
 
-pub overflow_add-self : goal.overflow_add-self
-overflow_add-self c =
-    let f = found _ _ _ _ _ c.in_ok-value.ensures in
-    omega (arith, c.fits-self.1.0.1, f.within)
+pub returns-clause-reads : goal.returns-clause-reads
+returns-clause-reads c =
+    let f = found _ _ _ _ _ c.in_ok-value.ensures.value in
+    field-fits {r = c.args.self.now} _ _ refl refl f.within f.value
 
-pub returns : goal.returns
-returns c =
-    let f = found _ _ _ _ _ c.in_ok-value.ensures in
-    let reads = field-fits {r = c.args.self.now} _ _ refl refl refl f.within f.value in
-    record { reads = reads; bound = read-bound reads }
+pub returns-in_err-value-clause-moved : goal.returns-in_err-value-clause-moved
+returns-in_err-value-clause-moved c =
+    let s = short _ _ _ _ _ c.in_err-value.ensures.value in
+    rw (moved-short _ _ _ 0 s.past) refl
+
+pub returns-clause-moved : goal.returns-clause-moved
+returns-clause-moved c =
+    let f = found _ _ _ _ _ c.in_ok-value.ensures.value in
+    rw (moved-once _ _ _ f.within) refl
+
+pub returns-clause-bound : goal.returns-clause-bound
+returns-clause-bound c =
+    let f = found _ _ _ _ _ c.in_ok-value.ensures.value in
+    rw f.value (value< c.args.self.now.string.bytes.now c.args.self.now.at c.args.n)

@@ -1,12 +1,9 @@
--- `frame_file::lists::fill_values` meets its contract. The loop fills the values in order.
-use Rattle.std.proofs.Common.{arith, ap, ◌∙◌}
-use Rattle.std.specs.Float.{binary64}
-use Rattle.std.specs.Float.Ieee.{of_bits}
-use Rattle.fill.proofs.InOrder.{starts, more}
+-- `frame_file::lists::fill_values` meets its contract. Each place has the value of its index.
+use Rattle.std.proofs.Common.{rules}
+use Rattle.std.specs.Float.{nan}
+use Rattle.fill.proofs.ByIndex.{tab-by}
+use Rattle.frame_file.specs.File.{value_at}
 use Rattle.frame_file.proofs.lists.fill_values.Goals as goal
 
-pub loop-k-init : goal.loop-k-init
-loop-k-init c = starts (omega arith)
-
-pub loop-k-preserved : goal.loop-k-preserved
-loop-k-preserved c = more c.loop-k.invariant (omega arith) (c.float_of.ensures ∙ ap (of_bits binary64) c.number_at.ensures)
+pub returns : goal.returns
+returns c = tab-by nan (value_at c.args.bytes.now c.args.at) c.fill_by.ensures.each c.fill_by.ensures.len (λ k x gives. search rules)

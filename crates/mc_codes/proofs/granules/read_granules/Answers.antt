@@ -19,10 +19,10 @@ loop-gr-init c =
 pub returns-in_err-read_granule : goal.returns-in_err-read_granule
 returns-in_err-read_granule c =
     returned-stored _ _ _ c.from_residual.ensures.1
-    (last-turn _ 12 _ c.loop-gr.invariant (omega arith) (rw (same-granule c.args.lfe _ _ c.trimmed-steps.ensures.1) at c.in_err-read_granule.ensures))
+    (last-turn _ 12 _ c.loop-gr.invariant (omega arith) (rw (same-granule c.args.lfe.value _ _ c.trimmed-steps.ensures.1) at c.in_err-read_granule.ensures))
 
 pub loop-gr-preserved : goal.loop-gr-preserved
-loop-gr-preserved c = next-turn _ 12 _ c.loop-gr.invariant (omega arith) (rw (same-granule c.args.lfe _ _ c.trimmed-steps.ensures.1) at c.in_ok-read_granule.ensures)
+loop-gr-preserved c = next-turn _ 12 _ c.loop-gr.invariant (omega arith) (rw (same-granule c.args.lfe.value _ _ c.trimmed-steps.ensures.1) at c.in_ok-read_granule.ensures)
 
 pub returns : goal.returns
 returns c = no-turn _ 12 _ c.loop-gr.invariant (omega arith)

@@ -1,4 +1,5 @@
 -- `mc_codes::payload::read_payload` meets its contract.
+-- Each answer goes on from the one before it: its facts are those of its own goal, which a lemma would be given by name.
 use Rattle.bit_reader.proofs.ReadLaws.{both-on, both-stops, both-stops-late}
 use Rattle.mc_payload.specs.Payload.{granules, payload}
 use Rattle.mc_codes.proofs.PayloadLaws.{unflagged, flagged, ends-accepted, ends-refused, ends-returned}

@@ -9,6 +9,6 @@ unfolding listed sources_of
 returns c =
     let mode = c.args.mode in
     ap (option_map (λ (row : Bor (List ℕ)). row.now)) c.copied.ensures
-    ∙ got-row c.source_rows.result.now mode c.get.result c.get.ensures.lookup
+    ∙ got-row c.source_rows.result.now mode c.get.result (rw c.from.ensures at c.get.ensures.lookup)
     ∙ ap (λ rows. slice_get rows mode) c.source_rows.ensures
     ∙ row-found (source_rows c.args.pair) mode

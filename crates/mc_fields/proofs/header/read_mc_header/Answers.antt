@@ -1,4 +1,5 @@
 -- `mc_fields::header::read_mc_header` meets its contract.
+-- Each answer goes on from the one before it: its facts are those of its own goal, which a lemma would be given by name.
 use Rattle.bit_reader.proofs.ReadLaws.{returned, field-on, field-stops, stays}
 use Rattle.mc_fields.specs.Head.{mc_header}
 use Rattle.mc_fields.proofs.header.read_mc_header.Goals as goal

@@ -1,6 +1,6 @@
 -- `mc_output::output::store_five` meets its contract. The loop writes one place of each channel.
 use Rattle.std.proofs.Common.{refl, arith}
-use Rattle.mc_scale.proofs.Laws.Strided.{stride-starts, stride-more, stride-ends}
+use Rattle.fill.proofs.StridedLaws.{stride-starts, stride-more, stride-ends}
 use Rattle.mc_output.proofs.output.store_five.Goals as goal
 
 pub loop-ch-init : goal.loop-ch-init

@@ -1,7 +1,7 @@
 -- `mc_output::output::store_five` meets its contract. The loop writes one place of each channel.
 use Rattle.std.proofs.Common.{ℕ, get_or}
 use Rattle.std.specs.Float.{nan}
-use Rattle.mc_scale.proofs.Laws.Strided.{Striding}
+use Rattle.fill.proofs.StridedLaws.{Striding}
 use Rattle.mc_output.proofs.output.store_five.Given as goal
 
 abbrev pub invariant-loop-ch : goal.invariant-loop-ch

@@ -1,6 +1,5 @@
 -- `mc_output::output::write_output` meets its contract: the base alone, or all channels mixed.
 use Rattle.std.proofs.Common.{◌∙◌}
-use Rattle.mc_base.specs.Base.{scaled_base}
 use Rattle.mc_config.proofs.ConfigLaws.{layout-length}
 use Rattle.mc_payload.specs.Places.{config}
 use Rattle.mc_output.proofs.Laws.LayOut.{laid_out}
@@ -9,10 +8,8 @@ use Rattle.mc_output.proofs.Laws.BaseAlone.{alone-written}
 use Rattle.mc_output.proofs.output.write_output.Goals as goal
 
 pub returns-then-not-x : goal.returns-then-not-x
-returns-then-not-x c =
-    let base = c.args.base in
-    let both = c.both-both.ensures in
-    alone-written c.args.s.now (scaled_base base.left.now base.right.now) c.args.work.now c.mix_of-x.ensures c.if-x-eq0.true c.if-not-x.true both.left both.right c.write_base.ensures
+returns-then-not-x c b both =
+    alone-written c.args.s.now b c.args.work.now c.mix_of-x.ensures c.if-x-eq0.true c.if-not-x.true both.first_is both.second_is c.write_base.ensures
 
 pub lay_out-requires : goal.lay_out-requires
 lay_out-requires c =
@@ -20,11 +17,10 @@ lay_out-requires c =
     (rw x.ensures (layout-length (config c.args.s.now)).1, rw x.ensures (second_fits c.args.s.now))
 
 pub returns-else-x-eq0 : goal.returns-else-x-eq0
-returns-else-x-eq0 c =
+returns-else-x-eq0 c b both =
     let s = c.args.s.now in
     let base = c.args.base in
     let work = c.args.work.now in
     let x = c.mix_of-x in
-    let both = c.both-both in
-    output-written s (scaled_base base.left.now base.right.now) work x.ensures c.tcs_of.ensures both.ensures.right
-    (c.lay_out.ensures ∙ rw (c.write_mixed.ensures, both.ensures.left) (laid_out x.result c.tcs_of.result base.left.now _ work (rw x.ensures (second_fits s))))
+    output-written s b work x.ensures c.tcs_of.ensures both.second_is
+    (c.lay_out.ensures ∙ rw (c.write_mixed.ensures, ← both.first_is) (laid_out x.result c.tcs_of.result base.left.now base.right.now work (rw x.ensures (second_fits s))))

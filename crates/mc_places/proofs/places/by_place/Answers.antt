@@ -3,37 +3,19 @@ use mathlib.Core.Path.{refl}
 use native.Mathlib.Omega.{arith}
 use Rattle.fill.proofs.InOrder.{starts, more, ends-all}
 use Rattle.mc_places.specs.PlacesBy.{places_by}
-use Rattle.mc_places.proofs.PlacesBuilt.{group-small, group-place, steps-place, own-place}
+use Rattle.mc_places.proofs.PlacesBuilt.{group-place, steps-place, own-place}
 use Rattle.mc_places.proofs.places.by_place.Goals as goal
 
 pub loop-i-init : goal.loop-i-init
 loop-i-init c = (starts (omega arith), (starts (omega arith), (starts (omega arith), starts (omega arith))))
 
-pub overflow_mul-k : goal.overflow_mul-k
-overflow_mul-k c = let h = group-small _ _ c.sbgr_of_subband.ensures (omega arith) in omega arith
-
-pub overflow_add-k : goal.overflow_add-k
-overflow_add-k c = let h = group-small _ _ c.sbgr_of_subband.ensures (omega arith) in omega arith
-
-pub bounds-sources-k : goal.bounds-sources-k
-bounds-sources-k c = group-small _ _ c.sbgr_of_subband.ensures (omega arith)
-
-pub bounds-bases-k : goal.bounds-bases-k
-bounds-bases-k c = group-small _ _ c.sbgr_of_subband.ensures (omega arith)
-
 pub steps_by-requires : goal.steps_by-requires
-steps_by-requires c =
-    let small = group-small _ _ c.sbgr_of_subband.ensures (omega arith) in
-    let tables = c.requires in
-    (tables.0 _ small, tables.1 _ small, omega arith, omega arith)
-
-pub own_by-requires : goal.own_by-requires
-own_by-requires c = (omega arith, omega arith)
+steps_by-requires c = (c.requires.0 _ (omega arith), c.requires.1 _ (omega arith), omega arith, omega arith)
 
 pub loop-i-preserved : goal.loop-i-preserved
 loop-i-preserved c =
     let a = c.args in
-    let e = c.sbgr_of_subband.ensures in
+    let e = c.sbgr_of_subband.ensures.value in
     let h = c.carried-there.ensures in (
       more c.loop-i.invariant.0 (omega arith) (steps-place _ _ e _ _ h a.sources.now a.bases.now a.nb_steps.now a.base_nb_steps.now _ c.steps_by.ensures),
       (

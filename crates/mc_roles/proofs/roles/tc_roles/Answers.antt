@@ -17,4 +17,4 @@ returns c =
     let long : length rows ≡ length list = sym (length-map rows now) ∙ ap length e.rows in
     sym (get_or-map now rows k (record { ref_ptr = (0, 0); now = [] }))
     ∙ ap (λ (xs : List (List ℕ)). get_or xs k []) e.rows
-    ∙ ap (λ i. get_or list i []) (row-min c.args.tc (length list) k (rw long at e.some) (rw long at c.min.ensures))
+    ∙ ap (λ i. get_or list i []) (row-min c.args.tc (length list) k (rw long at e.some) (rw (long, c.from.ensures) at c.min.ensures))

@@ -1,4 +1,5 @@
 -- `mc_status::status::read_status` meets its contract.
+-- Each answer goes on from the one before it: its facts are those of its own goal, which a lemma would be given by name.
 use Rattle.bit_reader.proofs.ReadLaws.{returned, field-on, field-stops, goes-on, stops}
 use Rattle.mc_fields.proofs.BitsIfLaws.{if-and}
 use Rattle.mc_fields.specs.Head.{mc_composite_status_info}

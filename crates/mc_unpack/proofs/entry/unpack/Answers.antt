@@ -1,34 +1,32 @@
 -- `mc_unpack::entry::unpack` meets its contract.
-use Rattle.mc_loan.specs.Lent.{loan_with}
-use Rattle.mc_unpack.proofs.EntryAnswer.{refused-after, refused-numbered, raw-ready, lfe-ready, accepted-after}
+-- Each answer goes on from the one before it: its facts are those of its own goal, which a lemma would be given by name.
+use Rattle.std.proofs.Common.{refl, inl, inr}
+use Rattle.mc_unpack.proofs.EntryLaws.{after-wrong, lfe-most, after-refused, refused-numbered, writable, after-accepted}
 use Rattle.mc_unpack.proofs.entry.unpack.Goals as goal
 
-pub returns-in_err-decide : goal.returns-in_err-decide
-returns-in_err-decide c =
-    let a = c.args in
-    let l = loan_with a.loan.now a.header a.status in
+pub returns-then-not-lent_fits : goal.returns-then-not-lent_fits
+returns-then-not-lent_fits c = record { after = after-wrong _ c.args.string.bytes.now c.args.string.bits _ _ _ c.lent_fits.ensures c.if-not-lent_fits.true; numbered = inr (inr (inr (inl refl))) }
+
+pub read_mc_payload-requires : goal.read_mc_payload-requires
+read_mc_payload-requires c = lfe-most _ c.args.string.bytes.now c.args.string.bits c.args.raw.now c.args.lfe.now _ c.lent_fits.ensures c.if-not-lent_fits.false _ c.settings-s.ensures
+
+pub returns-in_err-read_mc_payload : goal.returns-in_err-read_mc_payload
+returns-in_err-read_mc_payload c =
+    let string = c.args.string in
+    let settled = c.in_err-read_mc_payload.ensures.settled in
     record {
-      after = refused-after l a.bytes.now a.bits a.raw.now a.lfe.now _ _ c.in_err-decide.ensures _ c.from_residual.ensures.1;
-      numbered = refused-numbered l a.bytes.now a.bits a.raw.now a.lfe.now _ _ c.in_err-decide.ensures _ c.from_residual.ensures.1;
+      after = after-refused _ string.bytes.now string.bits _ _ _ c.lent_fits.ensures c.if-not-lent_fits.false _ c.settings-s.ensures _ settled _ c.from_residual.ensures.1;
+      numbered = refused-numbered _ string.bytes.now string.bits c.args.raw.now c.args.lfe.now _ c.lent_fits.ensures c.if-not-lent_fits.false _ c.settings-s.ensures _ settled _ c.from_residual.ensures.1;
     }
 
-pub write_raw-excess_codes-requires : goal.write_raw-excess_codes-requires
-write_raw-excess_codes-requires c =
-    let a = c.args in
-    let l = loan_with a.loan.now a.header a.status in
-    raw-ready l a.bytes.now a.bits a.raw.now a.lfe.now _ c.in_ok-decide.ensures
+pub write_samples-excess_codes-requires : goal.write_samples-excess_codes-requires
+write_samples-excess_codes-requires c =
+    let lfe = lfe-most _ c.args.string.bytes.now c.args.string.bits c.args.raw.now c.args.lfe.now _ c.lent_fits.ensures c.if-not-lent_fits.false _ c.settings-s.ensures in
+    let read = c.in_ok-read_mc_payload.ensures in
+    (read.places, lfe, writable _ c.args.string.bytes.now c.args.string.bits c.args.raw.now c.args.lfe.now _ c.lent_fits.ensures c.if-not-lent_fits.false _ c.settings-s.ensures c.read_mc_payload.new.payload read.settled)
 
-pub write_lfe-requires : goal.write_lfe-requires
-write_lfe-requires c =
-    let a = c.args in
-    let l = loan_with a.loan.now a.header a.status in
-    let r = lfe-ready l a.bytes.now a.bits a.raw.now a.lfe.now _ c.in_ok-decide.ensures in record { lfe_bound = r.0; lfe_fits = r.1 }
-
-pub returns : goal.returns
-returns c =
-    let a = c.args in
-    let l = loan_with a.loan.now a.header a.status in
-    record {
-      after = accepted-after l a.bytes.now a.bits a.raw.now a.lfe.now _ c.in_ok-decide.ensures _ _ c.write_raw-excess_codes.ensures.0 c.write_lfe.ensures _ c.excesses.ensures _ c.write_raw-excess_codes.ensures.1;
-      numbered = tt;
-    }
+pub returns-clause-after : goal.returns-clause-after
+returns-clause-after c =
+    let read = c.in_ok-read_mc_payload.ensures in
+    let samples = c.write_samples-excess_codes.ensures in
+    after-accepted _ c.args.string.bytes.now c.args.string.bits _ _ _ c.lent_fits.ensures c.if-not-lent_fits.false _ c.settings-s.ensures _ read.settled read.places _ _ samples.0 samples.1 _ c.excesses.ensures _ samples.2

@@ -1,15 +1,9 @@
 -- `mc_values::values::delays` meets its contract.
-use Rattle.std.proofs.Common.{refl, arith}
-use Rattle.fill.proofs.InOrder.{starts, more, ends-all}
-use Rattle.mc_values.specs.Values.{delays_from}
+use Rattle.std.proofs.Common.{rules, []}
+use Rattle.fill.proofs.FromFn.{tab-made}
+use Rattle.mc_values.specs.Values.{delays_in, delays_from}
 use Rattle.mc_values.proofs.values.delays.Goals as goal
-
-pub loop-g-init : goal.loop-g-init
-loop-g-init c = starts (omega arith)
-
-pub loop-g-preserved : goal.loop-g-preserved
-loop-g-preserved c = more c.loop-g.invariant (omega arith) c.group_delays.ensures
 
 pub returns : goal.returns
 unfolding delays_from
-returns c = ends-all c.loop-g.invariant (omega arith) refl
+returns c = tab-made [] (delays_in c.args.codes.now) c.from_fn.ensures.items (λ i low x after called. (search rules, search rules))

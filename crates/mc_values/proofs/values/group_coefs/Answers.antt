@@ -1,15 +1,11 @@
 -- `mc_values::values::group_coefs` meets its contract.
-use Rattle.std.proofs.Common.{refl, arith}
-use Rattle.fill.proofs.InOrder.{starts, more, ends-all}
-use Rattle.mc_values.specs.Values.{coefs_in}
+use Rattle.std.proofs.Common.{rules, [], ◌+◌, ◌*◌}
+use Rattle.fill.specs.Tab.{tab}
+use Rattle.fill.proofs.FromFn.{tab-made}
+use Rattle.mc_fields.specs.Head.{count_at}
+use Rattle.mc_values.specs.Values.{coef_by, coefs_in}
 use Rattle.mc_values.proofs.values.group_coefs.Goals as goal
-
-pub loop-px-init : goal.loop-px-init
-loop-px-init c = starts (omega arith)
-
-pub loop-px-preserved : goal.loop-px-preserved
-loop-px-preserved c = more c.loop-px.invariant (omega arith) c.predictor_coefs.ensures
 
 pub returns : goal.returns
 unfolding coefs_in
-returns c = ends-all c.loop-px.invariant (omega arith) refl
+returns c = let a = c.args in tab-made [] (λ px. tab (coef_by a.codes.now (count_at a.predsi.now a.g px) (6 * a.g + px)) 3) c.from_fn.ensures.items (λ i low x after called. (search rules, search rules))

@@ -1,13 +1,9 @@
 -- `mc_values::values::predictor_coefs` meets its contract.
-use Rattle.std.proofs.Common.{refl, arith}
-use Rattle.fill.proofs.InOrder.{starts, more, ends-all}
+use Rattle.std.proofs.Common.{rules}
+use Rattle.std.specs.Float.{nan}
+use Rattle.fill.proofs.FromFn.{tab-made}
+use Rattle.mc_values.specs.Values.{coef_by}
 use Rattle.mc_values.proofs.values.predictor_coefs.Goals as goal
 
-pub loop-k-init : goal.loop-k-init
-loop-k-init c = starts (omega arith)
-
-pub loop-k-preserved : goal.loop-k-preserved
-loop-k-preserved c = more c.loop-k.invariant (omega arith) c.coef_by.ensures
-
 pub returns : goal.returns
-returns c = ends-all c.loop-k.invariant (omega arith) refl
+returns c = tab-made nan (coef_by c.args.codes.now c.args.n c.args.q) c.from_fn.ensures.items (λ i low x after called. (search rules, search rules))

@@ -3,4 +3,4 @@ use Rattle.replay_list.proofs.ValuesLaws.{two-to-20}
 use Rattle.replay_list.proofs.values.fraction.Goals as goal
 
 pub returns : goal.returns
-returns c = rw two-to-20
+returns c = rw (c.from.ensures, two-to-20)

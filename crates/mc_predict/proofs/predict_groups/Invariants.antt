@@ -1,7 +1,0 @@
--- `mc_predict::predict_groups` meets its contract. The loop takes one group a turn.
-use Rattle.std.proofs.Common.{◌≤◌}
-use Rattle.mc_predict.proofs.Laws.Group.{Groups}
-use Rattle.mc_predict.proofs.predict_groups.Given as goal
-
-abbrev pub invariant-loop-sb : goal.invariant-loop-sb
-invariant-loop-sb l = (l.sb ≤ 8) × Groups l.pair l.flags l.modes l.delays l.coefs l.base.left.now l.base.right.now l.history l.initial.work l.work l.sb
