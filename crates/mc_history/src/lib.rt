@@ -2,26 +2,32 @@
 #![tactic(auto)]
 
 ghost use Rattle.std.specs.Prelude.{◌≡◌, ◌<◌};
+ghost use Rattle.fill.specs.Tab.{tab};
 ghost use Rattle.mc_base.specs.Base.{Base};
 ghost use Rattle.mc_payload.specs.declared.McSettings.{McSettings};
 ghost use Rattle.mc_predict.specs.Predict.{Both};
 ghost use Rattle.mc_history.specs.History.{history_of};
-ghost use Rattle.mc_history.specs.HistoryBy.{history_by};
+ghost use Rattle.mc_history.specs.HistoryBy.{line_by};
 
 use mc_base::Stereo;
 
-// Element i of the history: nine slots of each channel and subband.
-fn value_at(base: Stereo<&[f64; 1152]>, i: usize) -> f64
-    requires { i < 576 }
-    ensures { result ≡ history_by base.entry.left.now base.entry.right.now i }
+// The last nine slots of one subband of a channel, oldest first.
+fn line_of(base: &[f64; 1152], sb: usize) -> [f64; 9]
+    requires { sb < 32 }
+    ensures { result ≡ tab (line_by base.now sb) 9 }
 {
-    let channel = if i < 288 { base.left } else { base.right };
-    channel[32 * (27 + i % 9) + i % 288 / 9]
+    std::array::from_fn(|k| base[32 * (27 + k) + sb])
 }
 
-// The last nine slots of the channels that stand for both of a base, oldest first, for the next frame's prediction.
+// The last nine slots of the channels that stand for both of a base, for the next frame's prediction.
 pub fn history(base: Stereo<&[f64; 1152]>) -> [f64; 576]
     ensures { (s : McSettings) (b : Base) → Both s b base.entry.left.now base.entry.right.now → result ≡ history_of s b }
 {
-    std::array::from_fn(|i| value_at(base, i))
+    let mut values = [0.0; 576];
+    // by index, a line of nine a turn: a `from_fn` over all 576, which was tried, divides for each of them
+    for line in 0usize..64 {
+        let channel = if line < 32 { base.left } else { base.right };
+        values[9 * line..9 * line + 9].copy_from_slice(&line_of(channel, line % 32));
+    }
+    values
 }

@@ -140,10 +140,11 @@ fn lay_out(x: &Mix, work: &[f64; 3456], output: &mut [f64; 5760])
 fn write_base(x: &Mix, base: Stereo<&[f64; 1152]>, output: &mut [f64; 5760])
     ensures { output.new ≡ base_alone x.now base.entry.left.now base.entry.right.now }
 {
-    let left = base.left;
-    let right = base.right;
-    output[..1152].copy_from_slice(left);
-    output[1152..2304].copy_from_slice(right);
+    // by index, both channels a turn: a copy of each, by `copy_from_slice` or by assignment, was tried, and the archive for C then needs `memmove` from outside
+    for j in 0usize..1152 {
+        output[j] = base.left[j];
+        output[1152 + j] = base.right[j];
+    }
     clear_beyond(x.channels.min(2), output);
 }
 

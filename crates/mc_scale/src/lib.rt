@@ -75,7 +75,7 @@ fn scale_place(
     }
 }
 
-// All places: work holds the scaled values, channel m, slot and subband at (36 * m + slot) * 32 + subband; +0 where the step count is 0.
+// All places, channel by channel: work holds the scaled values, channel m, slot and subband at (36 * m + slot) * 32 + subband; +0 where the step count is 0.
 // A source is multiplied while it is read, with no copy in work. The second promise: that is the same as copying all
 // sources into work and then multiplying work, whatever it held.
 pub fn scale(
@@ -91,9 +91,10 @@ pub fn scale(
 {
     let factors = factors_of(scalefactor);
     work.fill(0.0);
-    // with its number, by which a place finds its source, its factors and its column
-    for (place, steps) in places.steps.iter().enumerate() {
-        if *steps != 0 {
+    // by index, channel by channel: an iterator over the step counts takes the three channels in turn, whose columns put each other out of the cache
+    for i in 0usize..96 {
+        let place = 3 * (i % 32) + i / 32;
+        if places.steps[place] != 0 {
             scale_place(place, places, &factors, raw, base, work);
         }
     }

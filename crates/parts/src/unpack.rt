@@ -1,5 +1,5 @@
 // Unpacking a payload under its head, for other languages. The function for C takes any input.
-ghost use Rattle.std.specs.Prelude.{◌≡◌};
+ghost use Rattle.std.specs.Prelude.{◌≡◌, true};
 ghost use Rattle.mc_unpack.specs.Answer.{answered};
 ghost use Rattle.part_tables.specs.Payload.{lent_of, buffers_from, after_by, lent_fits, part_of};
 ghost use Rattle.part_tables.specs.PayloadCode.{buffers_now, SameSlices, packed_tables};
@@ -32,12 +32,10 @@ fn unpack_part(
     loan: &Loan<'_>,
     buffers: &mut Buffers<'_>,
 ) -> Result<Unpacked, McError>
+    requires { let l = loan.now in lent_fits (lent_of head.bytes.now head.bits payload.bytes.now payload.bits l.reading l.rate l.base_channels l.lfe_allocation l.nb_steps.now l.base_nb_steps.now) (buffers_now buffers.old) ≡ true }
     ensures same_slices { SameSlices buffers.old buffers.new }
     ensures part { let l = loan.now in after_by (packed_tables (answered result)) (buffers_now buffers.new) ≡ part_of (lent_of head.entry.bytes.now head.entry.bits payload.entry.bytes.now payload.entry.bits l.reading l.rate l.base_channels l.lfe_allocation l.nb_steps.now l.base_nb_steps.now) (buffers_now buffers.old) }
 {
-    if !lent_fits(head, payload, loan, buffers) {
-        return Err(McError::InvalidArgument);
-    }
     let head = read_head(head, loan.reading, loan.base_channels)?;
     let raw = &mut *buffers.raw;
     let unpacked = unpack(
@@ -50,6 +48,22 @@ fn unpack_part(
     )?;
     buffers.write_tables(&unpacked, &head.status.mc_prediction);
     Ok(unpacked)
+}
+
+// The same, and the answer as one number. Apart from the function for C, which tests before: what is unpacked is cleared where it begins, and a wrong
+// loan needs none of it.
+fn packed_part(
+    head: BitString<'_>,
+    payload: BitString<'_>,
+    loan: &Loan<'_>,
+    buffers: &mut Buffers<'_>,
+) -> u64
+    requires { let l = loan.now in lent_fits (lent_of head.bytes.now head.bits payload.bytes.now payload.bits l.reading l.rate l.base_channels l.lfe_allocation l.nb_steps.now l.base_nb_steps.now) (buffers_now buffers.old) ≡ true }
+    ensures same_slices { SameSlices buffers.old buffers.new }
+    ensures part { let l = loan.now in after_by result (buffers_now buffers.new) ≡ part_of (lent_of head.entry.bytes.now head.entry.bits payload.entry.bytes.now payload.entry.bits l.reading l.rate l.base_channels l.lfe_allocation l.nb_steps.now l.base_nb_steps.now) (buffers_now buffers.old) }
+{
+    let unpacked = unpack_part(head, payload, loan, buffers);
+    pack_tables(&unpacked)
 }
 
 // The answer is one number. C lends what is lent one by one: hence the long list.
@@ -100,6 +114,8 @@ pub extern "C" fn mc_part_unpack(
         raw,
         lfe,
     };
-    let unpacked = unpack_part(head, payload, &loan, &mut buffers);
-    pack_tables(&unpacked)
+    if !lent_fits(head, payload, &loan, &buffers) {
+        return McError::InvalidArgument.packed();
+    }
+    packed_part(head, payload, &loan, &mut buffers)
 }

@@ -1,11 +1,12 @@
 -- The output where the output is the base alone is that of the definition.
-use Rattle.std.specs.Prelude.{◌≡◌, refl, Bool, true, false, cond, List, [], ◌∷◌, ◌++◌, ℕ, ◌+◌, ◌-◌, ◌≤◌, min, length, ltb, zero, suc, ◌*◌, ◌/◌, ◌%◌, ◌<◌, eqb, Float, get_or}
-use Rattle.std.proofs.Common.{sym, ◌∙◌, ⊎_elim, eq-zero-or-pos, lt-ltb, le-ltb, ltb-true, ltb-false, arith}
-use Rattle.std.proofs.lemmas.List.{places}
-use borrow.Rule.Slice.PartMut.{put_mid, post_of}
+use Rattle.std.specs.Prelude.{◌≡◌, refl, Bool, true, false, cond, List, [], ◌∷◌, ℕ, ◌+◌, ◌-◌, ◌≤◌, min, length, ltb, set, zero, suc, ◌*◌, ◌/◌, ◌%◌, ◌<◌, eqb, Float, get_or}
+use Rattle.std.proofs.Common.{sym, ◌∙◌, ⊎_elim, eq-zero-or-pos, length-set, get_or-set_same, get_or-set_other, lt-ltb, le-ltb, ltb-true, ltb-false, arith}
 use Rattle.std.specs.Float.{nan}
 use Rattle.floats.specs.Binary64.{zero64}
-use Rattle.fill.proofs.TabLaws.{tab-same}
+use Rattle.fill.specs.Tab.{filled}
+use Rattle.fill.proofs.TabLaws.{tab-same, get_or-filled}
+use Rattle.fill.proofs.ByTurn.{ByTurn}
+use Rattle.mc_scale.proofs.Laws.TurnBlock.{turn-block}
 use Rattle.mc_config.proofs.CaseLaws.{by_pair-elim}
 use Rattle.mc_config.specs.Config.{main_of}
 use Rattle.mc_payload.specs.declared.McSettings.{McSettings}
@@ -38,16 +39,47 @@ base-value x left right t ch h =
     let c : (t + 1152 * ch) / 1152 ≡ ch = omega arith in
     rw (j, c)
 
--- two lists of n copied to the front of a third
-module _ (n : ℕ) (left right d : List Float) (left_long : length left ≡ n) (right_long : length right ≡ n) where
-  abbrev copied : List Float
-  copied = put_mid n n (left ++ post_of 0 n d) right
+-- a turn of a loop that writes one place of both base channels, one after the other
+abbrev pub of_both : List Float → List Float → ℕ → Float
+of_both left right k = get_or (base_by left right (k % 1152)) (k / 1152) nan
 
-  first-copied : (k : ℕ) → k < n → get_or copied k nan ≡ get_or left k nan
-  first-copied k h = grind (arith, places)
+pub turn-both :
+    (left right : List Float) {d dst : List Float} {t : ℕ}
+    → ByTurn nan (λ (k : ℕ). k % 1152) (of_both left right) 2304 d dst t
+    → t < 1152
+    → ByTurn nan (λ (k : ℕ). k % 1152) (of_both left right) 2304 d (set (set dst t (get_or left t nan)) (1152 + t) (get_or right t nan)) (t + 1)
+turn-both left right {d} {dst} {t} p h = turn-block p (length-set first (1152 + t) (get_or right t nan) ∙ length-set dst t (get_or left t nan)) here there
+  where
+    first : List Float
+    first = set dst t (get_or left t nan)
 
-  second-copied : (k : ℕ) → n ≤ k → k < n + n → get_or copied k nan ≡ get_or right (k - n) nan
-  second-copied k h l = grind (arith, places)
+    next : List Float
+    next = set first (1152 + t) (get_or right t nan)
+
+    long : length first ≡ length dst
+    long = length-set dst t (get_or left t nan)
+
+    at_first : (k : ℕ) → k ≡ t → get_or next k nan ≡ of_both left right k
+    at_first k e =
+        let c : t / 1152 ≡ 0 = omega arith in
+        let j : t % 1152 ≡ t = omega arith in
+        rw (e, c, j)
+        (get_or-set_other first (1152 + t) t (get_or right t nan) nan (λ q. absurd (omega arith))
+        ∙ get_or-set_same dst t (get_or left t nan) nan (omega (arith, p.room, p.long)))
+
+    at_second : (k : ℕ) → k ≡ 1152 + t → get_or next k nan ≡ of_both left right k
+    at_second k e =
+        let c : (1152 + t) / 1152 ≡ 1 = omega arith in
+        let j : (1152 + t) % 1152 ≡ t = omega arith in
+        rw (e, c, j) (get_or-set_same first (1152 + t) (get_or right t nan) nan (omega (arith, p.room, p.long, long)))
+
+    here : (k : ℕ) → k < 2304 → k % 1152 ≡ t → get_or next k nan ≡ of_both left right k
+    here k l s = ⊎_elim (λ e. at_second k (omega arith)) (λ e. at_first k (omega arith)) (eq-zero-or-pos (1152 - k))
+
+    there : (k : ℕ) → (k < 2304 → k % 1152 ≡ t → ⊥) → get_or next k nan ≡ get_or dst k nan
+    there k other =
+        get_or-set_other first (1152 + t) k (get_or right t nan) nan (λ e. other (omega arith) (omega arith))
+        ∙ get_or-set_other dst t k (get_or left t nan) nan (λ e. other (omega arith) (omega arith))
 
 -- the channels past the first two are +0
 silent : (a b : Float) (m : ℕ) → 2 ≤ m → m < 5 → zero64 ≡ get_or (a ∷ b ∷ zero64 ∷ zero64 ∷ zero64 ∷ []) m nan
@@ -78,23 +110,11 @@ module _ (c k m : ℕ) (v w : Float) (at : k / 1152 ≡ m) (low : k < 2304 → v
   at_most_two = ⊎_elim (λ e. past (omega arith) (ltb m c)) (λ e. kept (omega arith) (ltb m c) refl) (eq-zero-or-pos (2304 - k))
 
 -- both channels as they are, and +0 beyond them
-module _ (x : Mix) (left right d : List Float) (left_long : length left ≡ 1152) (right_long : length right ≡ 1152) where
-  both : (k : ℕ) → k < 2304 → get_or (copied 1152 left right d left_long right_long) k nan ≡ get_or (base_by left right (k % 1152)) (k / 1152) nan
-  both k h =
-      ⊎_elim
-      (λ e. let c : k / 1152 ≡ 1 = omega arith in
-      let j : k % 1152 ≡ k - 1152 = omega arith in
-      rw (c, j) (second-copied 1152 left right d left_long right_long k (omega arith) (omega arith)))
-      (λ e. let c : k / 1152 ≡ 0 = omega arith in
-      let j : k % 1152 ≡ k = omega arith in
-      rw (c, j) (first-copied 1152 left right d left_long right_long k (omega arith)))
-      (eq-zero-or-pos (1152 - k))
-
-  pub base-copied : beyond (min x.channels 2) (copied 1152 left right d left_long right_long) ≡ base_alone x left right
-  unfolding beyond base_alone
-  base-copied =
-      tab-same 5760 (λ k h.
-      at_most_two x.channels k (k / 1152) _ _ refl (both k) (λ l. silent _ _ (k / 1152) (omega arith) (omega arith)))
+pub base-laid : (x : Mix) (left right d : List Float) → beyond (min x.channels 2) (filled (of_both left right) 2304 d) ≡ base_alone x left right
+unfolding beyond base_alone
+base-laid x left right d =
+    tab-same 5760 (λ k h.
+    at_most_two x.channels k (k / 1152) _ _ refl (λ l. get_or-filled nan (of_both left right) 2304 k d l) (λ l. silent _ _ (k / 1152) (omega arith) (omega arith)))
 
 alone-by-mix :
     (x : Mix) (tcs : List ℕ) (left right work : List Float)

@@ -1,11 +1,15 @@
--- `mc_output::output::write_base` meets its contract.
-use Rattle.std.proofs.Common.{◌∙◌, rules}
-use Rattle.mc_output.proofs.Laws.BaseAlone.{base-copied}
+-- `mc_output::output::write_base` meets its contract. The loop writes one place of both channels a turn.
+use Rattle.std.proofs.Common.{◌∙◌, arith}
+use Rattle.fill.proofs.ByTurn.{turn-ends}
+use Rattle.mc_output.proofs.Laws.BaseAlone.{turn-both, base-laid}
 use Rattle.mc_output.proofs.output.write_base.Goals as goal
+
+pub loop-j-preserved : goal.loop-j-preserved
+loop-j-preserved c = (omega arith, turn-both c.args.base.left.now c.args.base.right.now c.loop-j.invariant.1 c.loop-j-test.true)
 
 pub returns : goal.returns
 returns c =
-    let base = c.args.base in
+    let a = c.args in
     c.clear_beyond.ensures
-    ∙ rw (c.min.ensures, c.copy_from_slice.ensures.after, c.copy_from_slice-2.ensures.after)
-    (base-copied c.args.x.now base.left.now base.right.now c.args.output.now (search rules) (search rules))
+    ∙ rw (c.min.ensures, turn-ends c.loop-j.invariant.1 (λ k h. omega arith))
+    (base-laid a.x.now a.base.left.now a.base.right.now a.output.now)
