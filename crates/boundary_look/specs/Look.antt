@@ -1,5 +1,5 @@
 -- What is looked at in buffers and state after a frame call.
-use Rattle.std.specs.Prelude.{Bool, true, false, ◌&&◌, cond, Option, Some, List, ℕ, zero, suc, ◌+◌, ◌*◌, ◌/◌, ◌%◌, eqb, Float, length, get_or}
+use Rattle.std.specs.Prelude.{Bool, true, false, ◌&&◌, cond, Option, Some, None, List, ℕ, zero, suc, ◌+◌, ◌*◌, ◌/◌, ◌%◌, eqb, Float, length, get_or}
 use Rattle.std.specs.Float.{nan, binary64}
 use Rattle.std.specs.Float.Ieee.{of_bits, eq}
 use Rattle.floats.specs.Binary64.{◌⊘◌, zero64}
@@ -50,6 +50,10 @@ bases_at output base subband slot = same (second_at output subband slot) (get_or
 unfoldable pub held_of : List Float → List Float → ℕ → Held
 held_of output base subband =
     cond (each (zeros_at output subband) 36) Zero (cond (each (bases_at output base subband) 36) Base Other)
+
+-- the same by a number
+abbrev pub held_by : ℕ → Option Held
+held_by number = cond (eqb number 0) (Some Other) (cond (eqb number 1) (Some Zero) (cond (eqb number 2) (Some Base) None))
 
 -- whether it holds that; nothing holds None
 abbrev pub holds : Held → Option Held → Bool

@@ -1,7 +1,7 @@
 // What is looked at in buffers and state after a frame call.
 ghost use Rattle.std.specs.Prelude.{◌≡◌, ◌-◌, ◌<◌};
 ghost use Rattle.fill.specs.Each.{each};
-ghost use Rattle.boundary_look.specs.Look.{same as Look·same, all_are, same_values, is_stored, second_is_first, third_is_silent, zeros_at, bases_at, held_of, held_until};
+ghost use Rattle.boundary_look.specs.Look.{same as Look·same, all_are, same_values, is_stored, second_is_first, third_is_silent, zeros_at, bases_at, held_by, held_of, held_until};
 
 // The same bits: equal, and zeros of the same sign. A NaN is the same as nothing.
 #[tactic(auto, unfolding(crate::specs::Look::same))]
@@ -69,6 +69,20 @@ pub enum Held {
     Zero,
     Base,
     Other,
+}
+
+impl Held {
+    // By a number: 0 is neither, 1 is +0, 2 is the base value, and no subband holds what another number stands for.
+    pub fn by_number(number: u8) -> Option<Held>
+        ensures { result ≡ held_by number }
+    {
+        match number {
+            0 => Some(Held::Other),
+            1 => Some(Held::Zero),
+            2 => Some(Held::Base),
+            _ => None,
+        }
+    }
 }
 
 #[tactic(auto, using(crate::proofs::LookLaws::silent_base), unfolding(crate::specs::Look::held_of))]

@@ -48,7 +48,7 @@ pub fn unpacked_frame(
     let mut p = McPayload::default();
     read_mc_payload(lent.payload, &s, &mut p)?;
     let own = frame_layout(&s);
-    let next = history(lent.base.scaled.both(lent.loan.base_channels));
+    let next = history(&s, lent.base.scaled);
     let held = state.held();
     if !own.follows(held, s.reading) {
         state.pred_hist = next;

@@ -31,7 +31,6 @@ pub fn finish(
     ensures output { output.new ≡ output_of s.now (lent base.entry) work.new }
 {
     mc_scale::scale(places, scalefactor, raw, base.raw, work);
-    let both = base.scaled.both(s.base_channels);
-    mc_predict::predict(s, delays, coefs, both, history, work);
-    mc_output::write_output(s, both, work, output);
+    mc_predict::predict(s, delays, coefs, base.scaled, history, work);
+    mc_output::write_output(s, base.scaled, work, output);
 }

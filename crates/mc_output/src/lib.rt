@@ -3,4 +3,4 @@
 
 mod output;
 
-pub use output::write_output;
+pub use output::{write_output, write_output_of_both};

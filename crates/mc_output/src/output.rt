@@ -1,5 +1,5 @@
 // The output by channel, slot and subband (ISO/IEC 13818-3, 2.5.3.2.1).
-ghost use Rattle.std.specs.Prelude.{◌≡◌, cond, ℕ, ◌<◌, ◌≤◌, get_or};
+ghost use Rattle.std.specs.Prelude.{◌≡◌, cond, ℕ, ◌<◌, ◌≤◌, eqb, length, get_or};
 ghost use Rattle.std.specs.Float.{nan};
 ghost use Rattle.mc_scale.specs.Code.Strided.{across};
 ghost use Rattle.mc_base.specs.Base.{Base};
@@ -149,7 +149,7 @@ fn write_base(x: &Mix, base: Stereo<&[f64; 1152]>, output: &mut [f64; 5760])
 }
 
 // Writes the whole output, from the channels that stand for both of a base: channel, slot and subband at (36 * channel + slot) * 32 + subband.
-pub fn write_output(
+pub fn write_output_of_both(
     s: &McSettings,
     base: Stereo<&[f64; 1152]>,
     work: &[f64; 3456],
@@ -164,4 +164,17 @@ pub fn write_output(
         write_mixed(&x, &tcs_of(&s.status.tc_allocation), base, work, output);
         lay_out(&x, work, output);
     }
+}
+
+// The same from a base as it is lent, whose second channel is empty where there is one alone.
+pub fn write_output(
+    s: &McSettings,
+    base: Stereo<&[f64]>,
+    work: &[f64; 3456],
+    output: &mut [f64; 5760],
+)
+    requires { (length base.left.now ≡ 1152) × (length base.right.now ≡ cond (eqb s.now.base_channels 1) 0 1152) }
+    ensures { (b : Base) → b.scaled_left ≡ base.entry.left.now → b.scaled_right ≡ base.entry.right.now → output.new ≡ output_of s.now b work.now }
+{
+    write_output_of_both(s, base.both(s.base_channels), work, output);
 }

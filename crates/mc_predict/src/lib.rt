@@ -1,12 +1,12 @@
 // Multichannel prediction (ISO/IEC 13818-3, 2.5.3.2.1.3): from both base channels, in subbands 0 to 7.
 #![tactic(auto)]
 
-ghost use Rattle.std.specs.Prelude.{◌≡◌, [], ℕ, ◌+◌, ◌-◌, ◌*◌, ◌<◌, ◌≤◌, get_or};
+ghost use Rattle.std.specs.Prelude.{◌≡◌, cond, [], ℕ, ◌+◌, ◌-◌, ◌*◌, ◌<◌, ◌≤◌, eqb, length, get_or};
 ghost use Rattle.std.specs.Float.{nan};
 ghost use Rattle.floats.specs.Binary64.{◌⊕◌};
 ghost use Rattle.mc_crosstalk.specs.Crosstalk.{predicted_of};
 ghost use Rattle.mc_scale.specs.Code.Strided.{column};
-ghost use Rattle.mc_predict.specs.Code.PredictByLine.{line_at, line_of, term_of, terms_of, pair_sum, subband_of, predicted_by};
+ghost use Rattle.mc_predict.specs.Code.PredictByLine.{line_at, line_of, term_of, terms_of, pair_sum, subband_of, predicted_by, predicted_work};
 
 use mc_base::Stereo;
 use mc_config::McConfig;
@@ -117,8 +117,8 @@ fn predict_subband(
     }
 }
 
-// Adds the predictions to the scaled values in work: in the groups whose flag is set, from both base channels.
-pub fn predict(
+// Adds the predictions to the scaled values in work: in the groups whose flag is set, from the channels that stand for both of a base.
+pub fn predict_of_both(
     s: &McSettings,
     delays: &[[u8; 6]; 8],
     coefs: &[[[f64; 3]; 6]; 8],
@@ -141,4 +141,20 @@ pub fn predict(
             predict_subband(pair, mode, sb, &delays[sb], &coefs[sb], &lines, work);
         }
     }
+}
+
+// The same from a base as it is lent, whose second channel is empty where there is one alone.
+pub fn predict(
+    s: &McSettings,
+    delays: &[[u8; 6]; 8],
+    coefs: &[[[f64; 3]; 6]; 8],
+    base: Stereo<&[f64]>,
+    history: &[f64; 576],
+    work: &mut [f64; 3456],
+)
+    requires lengths { (length base.left.now ≡ 1152) × (length base.right.now ≡ cond (eqb s.now.base_channels 1) 0 1152) }
+    requires delays_low { (g px : ℕ) → g < 8 → px < 6 → get_or (get_or delays.now g []) px 0 ≤ 7 }
+    ensures { work.new ≡ predicted_work s.now delays.now coefs.now base.entry.left.now base.entry.right.now history.now work.old }
+{
+    predict_of_both(s, delays, coefs, base.both(s.base_channels), history, work);
 }

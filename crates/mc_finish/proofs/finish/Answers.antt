@@ -1,4 +1,5 @@
 -- `mc_finish::finish` meets its contract: scaling, prediction and output, one after the other.
+use Rattle.std.specs.Prelude.{refl}
 use Rattle.mc_base.specs.Base.{lent}
 use Rattle.mc_finish.specs.Finish.{record_from}
 use Rattle.mc_finish.proofs.Laws.Finish.{sources-small, bases-long, work-finished}
@@ -13,14 +14,10 @@ scale-requires c =
       factor_listed = p.record_fits.listed;
     }
 
-pub both-both-requires : goal.both-both-requires
-both-both-requires c = let fits = c.requires.base_fits in (fits.scaled_left_long, fits.scaled_right_long)
-
 pub returns : goal.returns
 returns c =
     let a = c.args in
-    let r = record_from a.raw.now a.scalefactor.now a.delays.now a.coefs.now in
-    let both = c.both-both.ensures in record {
-      work = work-finished a.s.now r (lent a.base) a.history.now c.requires.tables c.scale.ensures.scaled (rw (both.left, both.right) at c.predict.ensures);
-      output = c.write_output.ensures (lent a.base) (record { first_is = both.left; second_is = both.right });
+    let r = record_from a.raw.now a.scalefactor.now a.delays.now a.coefs.now in record {
+      work = work-finished a.s.now r (lent a.base) a.history.now c.requires.tables c.scale.ensures.scaled c.predict.ensures;
+      output = c.write_output.ensures (lent a.base) refl refl;
     }

@@ -1,9 +1,10 @@
 -- `mc_body::unpacked::unpacked_frame` meets its contract.
 -- What answers share is a `let`, whose names are those of each goal.
-use mathlib.Core.Path.{ap}
+use mathlib.Core.Path.{refl, ap}
+use Rattle.std.proofs.Common.{rules}
 use mathlib.Core.Bool.{not}
 use Rattle.mc_base.specs.Base.{lent}
-use Rattle.mc_body.proofs.UnpackedLaws.{lfe-low, surround-low, base-fits, both-channels, written_is, writable, delays-small, after-refused, after-changed, after-accepted}
+use Rattle.mc_body.proofs.UnpackedLaws.{lfe-low, surround-low, base-fits, written_is, writable, delays-small, after-refused, after-changed, after-accepted}
 use Rattle.mc_body.proofs.unpacked.unpacked_frame.Goals as goal
 
 pub read_mc_payload-requires : goal.read_mc_payload-requires
@@ -22,8 +23,14 @@ frame_layout-own-requires c =
     let k = c.settings-s in
     surround-low k.result _ k.ensures c.requires.low.1
 
-pub both-requires : goal.both-requires
-both-requires c = (c.requires.long.scaled_left, c.requires.long.scaled_right)
+pub history-next-requires : goal.history-next-requires
+history-next-requires c =
+    let k = c.settings-s in
+    let fits = base-fits k.result _ k.ensures _ _ c.requires.long in
+    let raw_left = fits.raw_left_long in
+    let raw_right = fits.raw_right_long in
+    let scaled_left = fits.scaled_left_long in
+    let scaled_right = fits.scaled_right_long in search rules
 
 pub returns-then-not-follows-clause-frame : goal.returns-then-not-follows-clause-frame
 returns-then-not-follows-clause-frame c =
@@ -31,7 +38,7 @@ returns-then-not-follows-clause-frame c =
     let k = c.settings-s in
     let r = c.in_ok-read_mc_payload in
     let n = c.frame_layout-own in
-    let h = c.history-next.ensures k.result (lent c.args.lent.now.base) (both-channels k.result _ k.ensures c.both.ensures.left c.both.ensures.right) in
+    let h = c.history-next.ensures (lent c.args.lent.now.base) refl refl in
     after-changed st _ _ _ _ k.result _ _ _ k.ensures _ r.ensures.settled _ n.ensures.0 _ n.ensures.1 _ h _ c.held-held.ensures _ c.follows.ensures (ap not c.if-not-follows.true)
 
 pub write_samples-excess_codes-requires : goal.write_samples-excess_codes-requires
@@ -55,7 +62,7 @@ returns-clause-frame c =
     let k = c.settings-s in
     let r = c.in_ok-read_mc_payload in
     let n = c.frame_layout-own in
-    let h = c.history-next.ensures k.result (lent c.args.lent.now.base) (both-channels k.result _ k.ensures c.both.ensures.left c.both.ensures.right) in
+    let h = c.history-next.ensures (lent c.args.lent.now.base) refl refl in
     let v = c.write_samples-excess_codes in
     let o = c.finish_payload in
     let w = written_is k.result _ _ _ _ _ _ _ v.ensures.0 o.ensures.0 o.ensures.1 v.ensures.1 in

@@ -1,7 +1,7 @@
--- `mc_predict::predict` meets its contract. The loop takes one group a turn.
+-- `mc_predict::predict_of_both` meets its contract. The loop takes one group a turn.
 use Rattle.std.proofs.Common.{◌≤◌}
 use Rattle.mc_predict.proofs.Laws.Group.{Groups}
-use Rattle.mc_predict.proofs.predict.Given as goal
+use Rattle.mc_predict.proofs.predict_of_both.Given as goal
 
 abbrev pub invariant-loop-sb : goal.invariant-loop-sb
 invariant-loop-sb l =
