@@ -14,7 +14,7 @@ loop-line-preserved c =
       | then-line-lt32 w ↦ ap (λ b. b.now) w.channel-is ∙ first-line both.left.now both.right.now t w.if-line-lt32.true
       | else-line-lt32 w ↦ ap (λ b. b.now) w.channel-is ∙ second-line both.left.now both.right.now t w.if-line-lt32.false
     ] in
-    (omega arith, turn-line _ _ c.loop-line.invariant.1 c.loop-line-test.true channel (c.copy_from_slice.ensures.after ∙ c.line_of.ensures) (omega arith))
+    (omega arith, turn-line _ _ c.loop-line.invariant.1 (omega arith) channel (c.copy_from_slice.ensures.after ∙ c.line_of.ensures) (omega arith))
 
 pub returns : goal.returns
 returns c s b both = history-kept s b both.first_is both.second_is (lines_end _ _ _ _ _ c.loop-line.invariant.1 (omega arith) (search rules))
