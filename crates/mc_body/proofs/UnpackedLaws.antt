@@ -1,5 +1,5 @@
 -- Each way through a frame from its payload on leaves what the definition says.
-use Rattle.std.specs.Prelude.{◌≡◌, Bool, not, cond, List, ℕ, ◌+◌, ◌*◌, ◌≤◌, eqb, Float, length, Result, Ok, Err}
+use Rattle.std.specs.Prelude.{◌≡◌, Bool, not, cond, List, ℕ, ◌+◌, ◌*◌, ◌≤◌, Float, length, Result, Ok, Err}
 use Rattle.std.specs.Result.{IsErrAnd}
 use Rattle.std.proofs.lemmas.Result.{err_from_is_err_and}
 use Rattle.std.proofs.Math.Path.{sym}
@@ -24,9 +24,8 @@ use Rattle.mc_unpack.proofs.SettledLaws.{settled-number, settled-writable}
 use Rattle.mc_payload.specs.Record.{raw_of, lfe_of, excesses_of, record_of, excess_codes}
 use Rattle.mc_payload.specs.Unpack.{allocations_fit, payload_of, Loan, settings_of}
 use Rattle.mc_payload.proofs.Demand3.Widths.{codes-fit}
-use Rattle.mc_base.specs.Base.{Base, chosen}
+use Rattle.mc_base.specs.Base.{Base}
 use Rattle.mc_output.specs.Output.{channels, work_of, output_of}
-use Rattle.mc_predict.specs.Predict.{Both}
 use Rattle.mc_history.specs.History.{history_at, history_of}
 use Rattle.mc_finish.specs.Finish.{BaseFits}
 use Rattle.mc_finish.proofs.Laws.Finish.{scaled_base}
@@ -58,15 +57,6 @@ module _ (s : McSettings) (l : Loan) (es : s ≡ settings_of l) where
   pub surround-low : l.header.surround ≤ 3 → s.header.surround ≤ 3
   unfolding settings_of
   surround-low h = rw es h
-
-  -- the channels that stand for both of the base
-  pub both-channels :
-      {base : Base} {first second : List Float}
-      → first ≡ base.scaled_left
-      → second ≡ chosen (cond (eqb l.base_channels 1) 0 1) base.scaled_left base.scaled_right
-      → Both s base first second
-  unfolding settings_of
-  both-channels e f = record { first_is = e; second_is = rw es f }
 
   module _ (base : Base) (w : Buffers) (h : Long l.base_channels base w) where
     pub base-fits : BaseFits s base

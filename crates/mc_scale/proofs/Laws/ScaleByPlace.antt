@@ -1,12 +1,9 @@
--- The tables of the places give the scaled values of the definition, and the loop over the places gives those of the tables.
-use Rattle.std.specs.Prelude.{◌≡◌, List, ℕ, ◌+◌, ◌*◌, ◌/◌, ◌%◌, ◌≤◌, ◌<◌, Float, get_or, length, replicate}
-use Rattle.std.proofs.Common.{◌∙◌, eq-eqb, ne_eqb}
-use Rattle.std.proofs.lemmas.List.{get_or-replicate}
+-- The tables of the places give the scaled values of the definition.
+use Rattle.std.specs.Prelude.{◌≡◌, List, ℕ, ◌+◌, ◌*◌, ◌/◌, ◌%◌, ◌<◌, get_or}
+use Rattle.std.proofs.Common.{◌∙◌}
 use native.Mathlib.Omega.{arith}
 use Rattle.std.specs.Float.{nan}
-use Rattle.fill.proofs.TabLaws.{get_or-tab, all-filled, tab-same}
-use Rattle.fill.proofs.ByTurn.{ByTurn, turn-ends}
-use Rattle.floats.specs.Binary64.{zero64}
+use Rattle.fill.proofs.TabLaws.{get_or-tab, tab-same}
 use Rattle.tables.specs.Scalefactor.{scalefactor_of}
 use Rattle.mc_payload.specs.declared.McSettings.{McSettings}
 use Rattle.mc_payload.specs.Places.{place, steps_at, source_at, base_at, steps_of, sources_of, bases_of}
@@ -14,10 +11,7 @@ use Rattle.mc_payload.specs.Record.{Record}
 use Rattle.mc_base.specs.Base.{Base}
 use Rattle.mc_scale.specs.Scale.{scaled_at, scaled_of}
 use Rattle.mc_scale.specs.Code.Column.{column_at, place_of, slot_of}
-use Rattle.mc_scale.specs.Code.ScaleByPlace.{factors_of, scaled_from, place_scaled, scaled_by_place}
-use Rattle.mc_scale.specs.Code.Strided.{column}
-use Rattle.mc_scale.proofs.Laws.Column.{column-turn, column-skip}
-use Rattle.fill.proofs.StridedLaws.{strided-same}
+use Rattle.mc_scale.specs.Code.ScaleByPlace.{factors_of, place_scaled, scaled_by_place}
 
 module _ (s : McSettings) (i : ℕ) (h : i < 96) where
   steps-at : get_or (steps_of s) i 0 ≡ steps_at s (i % 3) (i / 3)
@@ -62,32 +56,3 @@ module _ (s : McSettings) (r : Record) (b : Base) where
       let m : place_of k % 3 ≡ k / 1152 = omega arith in
       let sb : place_of k / 3 ≡ k % 32 = omega arith in
       place-scaled (place_of k) (slot_of k) (omega arith) (omega arith) ∙ rw (m, sb))
-
--- ---- the loop over the places, on a buffer of +0
-
-module _ (steps source base : List ℕ) (factors raw left right : List Float) where
-  abbrev pub Scaling : List Float → List Float → ℕ → Type 0
-  Scaling d work i = ByTurn nan place_of (λ (k : ℕ). place_scaled steps source base factors raw left right (place_of k) (slot_of k)) 3456 d work i
-
-  module _ (d work work' : List Float) (i : ℕ) (p : Scaling d work i) where
-    pub scaling-more :
-        i < 96
-        → (get_or steps i 0 ≡ 0 → ⊥)
-        → (written : List Float)
-        → written ≡ column (scaled_from (get_or source i 0) (get_or base i 0) factors raw left right i) (column_at i) work
-        → work' ≡ written
-        → Scaling d work' (i + 1)
-    scaling-more h n written e e' =
-        rw (e', e, strided-same {f = scaled_from (get_or source i 0) (get_or base i 0) factors raw left right i} {g = place_scaled steps source base factors raw left right i} 32 (column_at i) work 36 (λ j l. rw (ne_eqb (get_or steps i 0) 0 n)))
-        (column-turn (place_scaled steps source base factors raw left right) i p (λ k s. s) h (λ k l s. s))
-
-    pub scaling-skip : get_or steps i 0 ≡ 0 → (n : ℕ) → n ≡ 3456 → d ≡ replicate n zero64 → work' ≡ work → Scaling d work' (i + 1)
-    scaling-skip z n en e e' =
-        rw e'
-        (column-skip (place_scaled steps source base factors raw left right) i p (λ k s. s)
-        (λ k l. rw (e, en, eq-eqb (get_or steps i 0) 0 z) (get_or-replicate 3456 k zero64 nan l)))
-
-  pub scaling-ends : (d work : List Float) (i : ℕ) → Scaling d work i → 96 ≤ i → length d ≡ 3456 → work ≡ scaled_by_place steps source base factors raw left right
-  unfolding scaled_by_place
-  scaling-ends d work i p h e =
-      turn-ends p (λ k l. omega arith) ∙ all-filled (λ (k : ℕ). place_scaled steps source base factors raw left right (place_of k) (slot_of k)) 3456 d e
